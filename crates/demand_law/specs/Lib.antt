@@ -1,0 +1,5 @@
+pub mod Law
+pub mod Points
+pub mod Placed
+pub mod Integers
+pub mod WeightedSums

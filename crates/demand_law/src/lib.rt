@@ -1,0 +1,7 @@
+//! Laws of demand: how likely each demand is, by whole weights, and the laws of sums of demands.
+#![tactic(auto)]
+
+mod law;
+mod points;
+
+pub use law::{Law, LawErr, LawFault};

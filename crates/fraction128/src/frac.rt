@@ -1,0 +1,105 @@
+// Reduced fractions.
+ghost use Rattle.std.specs.Prelude.{◌≡◌, ℕ, ◌*◌, ◌/◌, ◌<◌, ◌≤◌, ◌++◌, OnOk, OnErr, pos, ◌*ℤ◌, ◌^◌};
+ghost use Rattle.std.specs.Int.RustNames.{unsigned_abs};
+ghost use lib.IntN.{neg_ℤ};
+ghost use Rattle.std.specs.Int.{IsGcd, ◌∣◌};
+ghost use Rattle.fraction128.specs.Reduced.{IsReduced, gcd_of, lowest_num, lowest_den};
+ghost use Rattle.fraction128.specs.Printed.{frac_text};
+
+use crate::text::{Memory, Text};
+
+/// A fraction in lowest terms.
+#[derive(Clone, Copy, Debug)]
+pub struct Frac {
+    pub num: i128,
+    pub den: u128,
+    ghost reduced: { IsReduced num den },
+}
+
+/// The greatest common divisor; that of 0 and 0 is 0.
+pub fn gcd(a: u128, b: u128) -> u128
+    ensures { IsGcd a b result }
+{
+    let mut x = a;
+    let mut y = b;
+    while y != 0 {
+        let rest = x % y;
+        x = y;
+        y = rest;
+    }
+    x
+}
+
+// The quotient by the greatest common divisor, of both.
+fn lowest(size: u128, den: u128) -> (u128, u128)
+    requires { 0 < den }
+    ensures top { result.0 ≡ size / gcd_of size den }
+    ensures bottom { result.1 ≡ den / gcd_of size den }
+    ensures same { result.0 * den ≡ size * result.1 }
+    ensures no_larger { result.0 ≤ size }
+    ensures positive { 0 < result.1 }
+    ensures lowest { (d : ℕ) → d ∣ result.0 → d ∣ result.1 → d ≡ 1 }
+{
+    let common = gcd(size, den);
+    (size / common, den / common)
+}
+
+// The number below 0 of this size.
+fn below_zero(size: u128) -> i128
+    requires { size ≤ 2 ^ 127 }
+    ensures value { result ≡ neg_ℤ (pos size) }
+    ensures size { unsigned_abs result ≡ size }
+{
+    0i128.wrapping_sub_unsigned(size)
+}
+
+impl Frac {
+    pub fn new(num: i128, den: u128) -> Frac
+        requires { 0 < den }
+        ensures value { (result.num *ℤ pos den) ≡ (num *ℤ pos result.den) }
+        ensures num { result.num ≡ lowest_num num den }
+        ensures den { result.den ≡ lowest_den num den }
+    {
+        let (top, bottom) = lowest(num.unsigned_abs(), den);
+        if num < 0 {
+            let below = below_zero(top);
+            return Frac {
+                num: below,
+                den: bottom,
+            };
+        }
+        let above = top as i128;
+        Frac {
+            num: above,
+            den: bottom,
+        }
+    }
+
+    pub fn whole(num: i128) -> Frac
+        ensures num { result.num ≡ num }
+        ensures den { result.den ≡ 1 }
+    {
+        Frac { num, den: 1 }
+    }
+}
+
+impl Frac {
+    /// Appends the fraction in decimal.
+    pub fn text_into(&self, out: &mut Text) -> Result<(), Memory>
+        ensures ok { OnOk result (out.new ≡ out.old ++ frac_text self.now.num self.now.den) }
+        ensures err { OnErr result (out.new ≡ out.old) }
+    {
+        let num = self.num;
+        let den = self.den;
+        let alloc = out.allocator();
+        let text = if den == 1 {
+            format!(in alloc; "{num}")
+        } else {
+            format!(in alloc; "{num}/{den}")
+        };
+        match text {
+            Ok(text) => out.push(text.as_bytes()),
+            Err(_) => Err(Memory),
+        }
+    }
+}
