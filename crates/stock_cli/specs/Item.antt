@@ -1,0 +1,14 @@
+-- The newsvendor of a form.
+use Rattle.std.specs.Prelude.{◌≡◌, Option, Some}
+use Rattle.serde_json.specs.Data.{Data}
+use Rattle.newsvendor.specs.declared.Newsvendor.{Newsvendor}
+use Rattle.demand_law.specs.Points.{points_law}
+use Rattle.stock_cli.specs.Reading.{NewsvendorForm, form_of}
+
+-- a value says this newsvendor
+pub record IsItem (d : Data) (item : Newsvendor) : Type 0 where
+  pub form : NewsvendorForm
+  pub said : form_of d ≡ Some form
+  pub holding : item.holding ≡ form.holding
+  pub stockout : item.stockout ≡ form.stockout
+  pub law : item.law ≡ points_law form.points

@@ -1,0 +1,28 @@
+// The report of `solve`.
+ghost use Rattle.std.specs.Prelude.{◌≡◌, IfOk, length};
+ghost use Rattle.newsvendor.specs.Least.{IsFirstLeast, first_least_upto};
+ghost use Rattle.newsvendor.specs.Level.{cost_of};
+ghost use Rattle.stock_cli.specs.Report.{report_for};
+
+use fraction128::{Memory, Text};
+use newsvendor::{Newsvendor, cost_at, solve_newsvendor};
+use std::alloc::Global;
+
+/// The least order-up-to level of least cost and its cost, as text.
+pub fn report(alloc: Global, item: &Newsvendor) -> Result<Text, Memory>
+    ensures text { IfOk result (λ text. text ≡ report_for item.now.holding item.now.stockout item.now.law) }
+    ensures least { IsFirstLeast (cost_of item.now) (first_least_upto (cost_of item.now) (length item.now.law)) }
+{
+    let cert = solve_newsvendor(item);
+    let cost = cost_at(item, cert.q);
+    let mut text = Text::new(alloc);
+    text.push(b"kind newsvendor\norder-up-to ")?;
+    let Ok(level) = cert.q.to_string(alloc) else {
+        return Err(Memory);
+    };
+    text.push(level.as_bytes())?;
+    text.push(b"\ncost ")?;
+    cost.text_into(&mut text)?;
+    text.push(b"\noptimal\n")?;
+    Ok(text)
+}

@@ -1,0 +1,45 @@
+// How a run ends.
+ghost use Rattle.std.specs.Prelude.{◌≡◌};
+ghost use Rattle.stock_cli.specs.Status.{code_of};
+
+/// How a run ended.
+#[derive(Clone, Copy, Debug, PartialEq, Eq)]
+pub enum Status {
+    /// The whole output was written.
+    Done,
+    /// A certificate was rejected.
+    Rejected,
+    /// The words name no command that runs.
+    Words,
+    /// The instance is missing, too long or no instance that the command takes.
+    Input,
+    /// An input couldn't be read.
+    ReadFault,
+    /// Standard output couldn't be written.
+    WriteFault,
+    /// The instance's numbers are too wide.
+    Width,
+    /// Memory was refused.
+    Memory,
+    /// A house rule is missing, or answered more than its cap.
+    House,
+}
+
+impl Status {
+    /// The process's exit code, 0 to 8 in the order of the variants.
+    pub fn code(self) -> u8
+        ensures { result ≡ code_of self }
+    {
+        match self {
+            Status::Done => 0,
+            Status::Rejected => 1,
+            Status::Words => 2,
+            Status::Input => 3,
+            Status::ReadFault => 4,
+            Status::WriteFault => 5,
+            Status::Width => 6,
+            Status::Memory => 7,
+            Status::House => 8,
+        }
+    }
+}
