@@ -116,7 +116,7 @@ pub cost_most : (holding stockout q n : ℕ) (law : List ℕ) → holding ≤ 10
     → level_cost holding stockout (take n law) q ≤ℤ pos 20002000000000000000
 cost_most holding stockout q n law h s hq short total =
     let each : level_cost holding stockout (take n law) q ≤ℤ weighted (take n law) (λ d. pos 20002000000) =
-        weighted-mono (take n law) _ _ (λ d lt. pos_le (mismatch_most holding stockout q d h s hq (within d lt))) in
+    weighted-mono (take n law) _ _ (λ d lt. pos_le (mismatch_most holding stockout q d h s hq (within d lt))) in
     let front = sum_by-take-le (λ x. x) law n in
     omega (arith, ints, each, weighted-const (take n law) (pos 20002000000), front)
   where

@@ -1,3 +1,4 @@
+pub mod Item
 pub mod Cost
 pub mod Least
 pub mod Level

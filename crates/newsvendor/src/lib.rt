@@ -2,11 +2,12 @@
 #![tactic(auto)]
 
 mod solve;
-
-ghost use Rattle.std.specs.Prelude.{◌+◌, ◌-◌, ◌<◌, ◌≤◌, sum, length, slice_index};
+#[cfg(test)]
+mod tests;
 
 use demand_law::Law;
 pub use solve::{NewsCert, cost_at, solve_newsvendor};
+use std::marker::Model;
 
 /// One order before one period of uncertain demand, as in Arrow, Harris and Marschak (1951).
 ///
@@ -17,11 +18,14 @@ pub struct Newsvendor {
     pub holding: u64,
     pub stockout: u64,
     pub law: Law,
-    ghost holding_in_range: { holding ≤ 1000000 },
-    ghost stockout_in_range: { stockout ≤ 1000000 },
-    ghost some_rate: { 0 < holding + stockout },
-    ghost some_demand: { 0 < length law },
-    ghost greatest_in_range: { length law ≤ 10001 },
-    ghost total_in_range: { sum law ≤ 1000000000 },
-    ghost greatest_has_weight: { 0 < slice_index law (length law - 1) },
+}
+
+impl Model for Newsvendor {
+    ghost use Rattle.newsvendor.specs.Item.{NewsvendorItem, IsNewsvendor};
+
+    ghost Value = { NewsvendorItem };
+
+    ghost view = { λ n. record { holding = n.holding; stockout = n.stockout; law = n.law } };
+
+    ghost invariant = { λ n. IsNewsvendor (record { holding = n.holding; stockout = n.stockout; law = n.law }) };
 }

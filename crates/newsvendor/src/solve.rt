@@ -46,6 +46,7 @@ fn weighted_cost(item: &Newsvendor, level: u32) -> u128
 // The first level whose weights reach the critical ratio stockout/(holding + stockout).
 fn critical_level(item: &Newsvendor) -> u32
     ensures within { result < length item.now.law }
+    ensures in_range { result ≤ 10000 }
     ensures reached { item.now.stockout * sum item.now.law ≤ (item.now.holding + item.now.stockout) * upto_of item.now.law result }
     ensures first { (k : ℕ) → k < result →
         (item.now.holding + item.now.stockout) * upto_of item.now.law k < item.now.stockout * sum item.now.law }
@@ -69,6 +70,7 @@ pub fn solve_newsvendor(item: &Newsvendor) -> NewsCert
     ensures cost { pos result.cost ≡ cost_of item.now result.q }
     ensures exact { result.q ≡ first_least_upto (cost_of item.now) (length item.now.law) }
     ensures within { result.q < length item.now.law }
+    ensures in_range { result.q ≤ 10000 }
 {
     let q = critical_level(item);
     NewsCert {

@@ -4,14 +4,14 @@ use Rattle.serde_json.specs.Data.{Data}
 use Rattle.demand_law.specs.Points.{points_law}
 use Rattle.newsvendor.specs.Cost.{level_cost}
 use Rattle.newsvendor.specs.Least.{IsFirstLeast, first_least_upto}
-use Rattle.newsvendor.specs.declared.Newsvendor.{Newsvendor}
+use Rattle.newsvendor.specs.Item.{NewsvendorItem}
 use Rattle.stock_cli.specs.Item.{IsItem}
 use Rattle.stock_cli.specs.Report.{report_for, IsReportOn}
 
 abbrev Reports : List ℕ → ℕ → ℕ → List ℕ → Type 0
 Reports text holding stockout law = (text ≡ report_for holding stockout law) × IsFirstLeast (level_cost holding stockout law) (first_least_upto (level_cost holding stockout law) (length law))
 
-pub report_on : (d : Data) (item : Newsvendor) (text : List ℕ) → IsItem d item → text ≡ report_for item.holding item.stockout item.law
+pub report_on : (d : Data) (item : NewsvendorItem) (text : List ℕ) → IsItem d item → text ≡ report_for item.holding item.stockout item.law
     → IsFirstLeast (level_cost item.holding item.stockout item.law) (first_least_upto (level_cost item.holding item.stockout item.law) (length item.law)) → IsReportOn d text
 report_on d item text i t least =
     let f = i.form in
