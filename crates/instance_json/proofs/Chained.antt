@@ -1,0 +1,20 @@
+-- Steps of a reading, one after another.
+use Rattle.std.proofs.Common.{◌≡◌, Result, Ok, Err, refl, sym, ap, ◌∙◌, subst}
+use Rattle.instance_json.specs.declared.fault.InstanceFault.{InstanceFault}
+use Rattle.instance_json.specs.declared.fault.InstanceErr.{InstanceErr}
+use Rattle.instance_json.specs.declared.fault.InstanceErr.TheVariants.{Bad, Memory}
+use Rattle.instance_json.specs.Faults.{Gives}
+use Rattle.instance_json.specs.Steps.{◌>>=◌}
+
+-- a refused step ends the reading
+pub gives_refused : {A B : Type 0} (e : InstanceErr) (step : Result A InstanceFault) (rest : A → Result B InstanceFault) → Gives (Err e) step → Gives (Err e) (step >>= rest)
+gives_refused (Bad f) step rest h = ap (λ r. r >>= rest) h
+gives_refused Memory step rest h = tt
+
+-- after a step that was taken, the rest decides
+pub gives_rest : {A B : Type 0} (answer : Result B InstanceErr) (step : Result A InstanceFault) (rest : A → Result B InstanceFault) (a : A) → step ≡ Ok a → Gives answer (rest a) → Gives answer (step >>= rest)
+gives_rest answer step rest a h g = subst (λ r. Gives answer (r >>= rest)) (sym h) g
+
+-- the steps were taken, one and all
+pub taken : {A B : Type 0} (step : Result A InstanceFault) (rest : A → Result B InstanceFault) (a : A) (b : B) → step ≡ Ok a → rest a ≡ Ok b → (step >>= rest) ≡ Ok b
+taken step rest a b h g = ap (λ r. r >>= rest) h ∙ g

@@ -1,0 +1,4 @@
+pub mod Listed
+pub mod Told
+pub mod Named
+pub mod Chained

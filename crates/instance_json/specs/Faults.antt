@@ -1,0 +1,51 @@
+-- Faults of keys, and what a reader's answer says.
+use Rattle.std.specs.Prelude.{◌≡◌, ℕ, List, Result, Ok, Err, ⊤}
+use Rattle.instance_json.specs.declared.fault.Key.{Key}
+use Rattle.instance_json.specs.declared.fault.KeyList.TheVariants.{Top}
+use Rattle.instance_json.specs.declared.fault.FieldFault.{FieldFault}
+use Rattle.instance_json.specs.declared.fault.FieldFault.TheVariants.{WrongType, OutOfRange, LengthMismatch, BadLaw}
+use Rattle.instance_json.specs.declared.fault.FieldErr.{FieldErr}
+use Rattle.instance_json.specs.declared.fault.FieldErr.TheVariants as field
+use Rattle.instance_json.specs.declared.fault.InstanceFault.{InstanceFault}
+use Rattle.instance_json.specs.declared.fault.InstanceFault.TheVariants as instance
+use Rattle.instance_json.specs.declared.fault.InstanceErr.{InstanceErr}
+use Rattle.instance_json.specs.declared.fault.InstanceErr.TheVariants.{Bad, Memory}
+
+-- a key of the instance itself
+abbrev pub top_key : List ℕ → Key
+top_key name = record { list = Top; item = 0; name = name }
+
+-- what is wrong with the value of a key, told of the key
+abbrev pub told_fault : Key → FieldFault → InstanceFault
+told_fault key WrongType = instance.WrongType key
+told_fault key OutOfRange = instance.OutOfRange key
+told_fault key LengthMismatch = instance.LengthMismatch key
+told_fault key (BadLaw f) = instance.BadLaw key f
+
+-- the reading of a key's value, with its fault told of the key
+abbrev pub told : {A : Type 0} → List ℕ → Result A FieldFault → Result A InstanceFault
+told name (Ok a) = Ok a
+told name (Err f) = Err (told_fault (top_key name) f)
+
+-- the answer of a field's reader is the reading, or memory was refused
+abbrev pub GivesField : {A : Type 0} → Result A FieldErr → Result A FieldFault → Type 0
+GivesField (Ok a) reading = reading ≡ Ok a
+GivesField (Err (field.Bad f)) reading = reading ≡ Err f
+GivesField (Err field.Memory) reading = ⊤
+
+-- the refusal for a key's value is the value's fault, told of the key, or memory was refused
+abbrev pub TellsErr : List ℕ → FieldErr → InstanceErr → Type 0
+TellsErr name e Memory = ⊤
+TellsErr name (field.Bad f) (Bad g) = g ≡ told_fault (top_key name) f
+TellsErr name field.Memory (Bad g) = ⊥
+
+-- the answer of a reader is the reading, or memory was refused
+abbrev pub Gives : {A : Type 0} → Result A InstanceErr → Result A InstanceFault → Type 0
+Gives (Ok a) reading = reading ≡ Ok a
+Gives (Err (Bad f)) reading = reading ≡ Err f
+Gives (Err Memory) reading = ⊤
+
+-- the fault of a refusal; nothing is said of want of memory
+abbrev pub MatchErr : InstanceErr → (InstanceFault → Type 0) → Type 0
+MatchErr (Bad f) P = P f
+MatchErr Memory P = ⊤

@@ -1,0 +1,5 @@
+pub mod Steps
+pub mod Faults
+pub mod Numbers
+pub mod Keys
+pub mod Lots
