@@ -3,3 +3,5 @@ pub mod Points
 pub mod Placed
 pub mod Integers
 pub mod WeightedSums
+pub mod Sequences
+pub mod SequenceSums
