@@ -5,3 +5,5 @@ pub mod Integers
 pub mod WeightedSums
 pub mod Sequences
 pub mod SequenceSums
+pub mod LawSums
+pub mod ListedSums
