@@ -1,1 +1,2 @@
 pub mod PointsPlaced
+pub mod Convolved

@@ -7,3 +7,4 @@ pub mod Sequences
 pub mod SequenceSums
 pub mod LawSums
 pub mod ListedSums
+pub mod ServedLaws

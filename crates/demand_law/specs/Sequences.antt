@@ -48,6 +48,10 @@ greatest_in (law ∷ laws) = max (greatest_of law) (greatest_in laws)
 abbrev pub one_at : ℕ → ℕ → ℤ
 one_at s e = if s == e then pos 1 else pos 0
 
+-- the weight of e in the sum of a demand k and a law
+abbrev pub weight_beyond : ℕ → List ℕ → ℕ → ℤ
+weight_beyond k law e = weighted law (λ d. one_at (k + d) e)
+
 -- the weight of e in the sum of laws: that of all sequences that add up to e
 abbrev pub weight_of_sum : List (List ℕ) → ℕ → ℤ
 weight_of_sum laws e = over laws (λ ds. one_at (sum ds) e)
