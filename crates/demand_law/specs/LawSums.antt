@@ -1,11 +1,11 @@
 -- The law of a sum: what depends on a sum of demands alone goes over to the sum's own law.
-use Rattle.std.proofs.Common.{◌≡◌, ℕ, zero, suc, ◌+◌, ◌-◌, ◌*◌, ◌^◌, ◌<◌, ◌≤◌, ℤ, pos, ◌+ℤ◌, ◌*ℤ◌, ◌≤ℤ◌, unsigned_abs, List, [], ◌∷◌, ◌++◌, length, sum, slice_index, get_or, map, Bool, true, false, if◌then◌else◌, nat_eq, ◌==◌, refl, sym, ◌∙◌, ap, subst, arith, zero-add, suc-add, ne_eqb, All, replicate, ◌⊎◌, inl, inr}
+use Rattle.std.proofs.Common.{◌≡◌, ℕ, zero, suc, ◌+◌, ◌-◌, ◌*◌, ◌^◌, ◌<◌, ◌≤◌, ℤ, pos, ◌+ℤ◌, ◌*ℤ◌, ◌≤ℤ◌, unsigned_abs, List, [], ◌∷◌, ◌++◌, length, sum, slice_index, get_or, map, Bool, true, false, if◌then◌else◌, nat_eq, ◌==◌, refl, sym, ◌∙◌, ap, subst, arith, zero-add, suc-add, ne_eqb, All, mul-le-mul_left, replicate, ◌⊎◌, inl, inr}
 use Rattle.std.specs.List.{range_with_len}
 use Rattle.std.proofs.lemmas.Int.{ints}
 use Rattle.std.proofs.lemmas.List.{get_or_past, get_or-replicate}
 use Rattle.std.proofs.lemmas.Grind.{same_number_lists}
 use Rattle.std.proofs.lemmas.Bool.{cases_lt}
-use Rattle.std.proofs.lemmas.List.Sums.{sum_by-append}
+use Rattle.std.proofs.lemmas.List.Sums.{sum_by-append, get_or-le-sum_by}
 use Rattle.std.proofs.lemmas.List.FromFn.{fill_by_all, get_or-map-range_with_len, length-map-range_with_len}
 use Rattle.std.specs.Int.Signed.{≤ℤ_refl}
 use lib.Dec.{eqb-zero-suc, eqb-suc-zero, eqb-suc-suc}
@@ -207,3 +207,14 @@ IsLaw-IsSumOf law laws is all fits short = record {
   where
     greatest : length law - 1 ≡ greatest_sum laws
     greatest = omega (arith, is.width)
+
+-- ---- the sums of weights
+pub sum_positive : (law : List ℕ) → IsLaw law → 0 < sum law
+sum_positive law is = omega (arith, is.some, is.last, get_or-le-sum_by (λ x. x) law (greatest_of law) 0 (omega (arith, is.some)))
+
+pub totals_of_positive : (laws : List (List ℕ)) → All IsLaw laws → 0 < totals_of laws
+totals_of_positive [] all = omega arith
+totals_of_positive (law ∷ laws) all =
+    let first : 1 ≤ sum law = sum_positive law (all 0 [] (omega arith)) in
+    let others : 1 ≤ totals_of laws = totals_of_positive laws (λ k d lt. all (suc k) d (omega arith)) in
+    omega (arith, first, others, mul-le-mul_left (sum law) others)

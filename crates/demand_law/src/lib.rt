@@ -6,4 +6,4 @@ mod points;
 mod sums;
 
 pub use law::{Law, LawErr, LawFault};
-pub use sums::{SumErr, convolve};
+pub use sums::{SumErr, convolve, lead_into, lead_sum};

@@ -88,3 +88,124 @@ pub fn convolve(alloc: Global, a: &Law, b: &Law) -> Result<Law, SumErr>
     convolve_into(first, second, &mut weights);
     Ok(Law::from_weights(weights))
 }
+
+// The law of a place, counted from `from` on.
+fn law_of(laws: &[Law], from: usize, place: usize) -> &Law
+    requires { Serves laws.now from (place + 1) }
+    ensures { result.now ≡ law_at laws.now (from + place) }
+{
+    if laws.len() == 1 {
+        &laws[0]
+    } else {
+        &laws[from + place]
+    }
+}
+
+// How many weights the law of the sum of the laws of some places has.
+fn lead_width(laws: &[Law], from: usize, count: usize) -> usize
+    requires serves { Serves laws.now from count }
+    requires short { count * greatest_in laws.now ≤ 4000000000 }
+    ensures width { result ≡ greatest_sum (laws_at laws.now from count) + 1 }
+    ensures are_laws { All IsLaw (laws_at laws.now from count) }
+{
+    let mut width = 1;
+    for place in 0..count {
+        width += law_of(laws, from, place).weights().len() - 1;
+    }
+    width
+}
+
+// Whether the product of the sums of weights of the laws of some places is at most 2^120.
+fn totals_fit(laws: &[Law], from: usize, count: usize) -> bool
+    requires serves { Serves laws.now from count }
+    requires are_laws { All IsLaw (laws_at laws.now from count) }
+    ensures { IsTrue result ↔ (totals_of (laws_at laws.now from count) ≤ 2 ^ 120) }
+{
+    let mut product = 1;
+    for place in 0..count {
+        let total = law_of(laws, from, place).total();
+        if !product_fits(product, total) {
+            return false;
+        }
+        product *= total;
+    }
+    true
+}
+
+// Puts the law of the sum with one law more in place of the first `len` weights, and says how many it has.
+fn add_law(sums: &mut [u128], len: usize, law: &[u128], next: &mut [u128]) -> usize
+    requires some { 0 < len }
+    requires more { 0 < length law.now }
+    requires room { len + length law.now ≤ length sums.old + 1 }
+    requires same_room { length next.old ≡ length sums.old }
+    requires fits { sum (take len sums.old) * sum law.now ≤ 2 ^ 120 }
+    ensures width { result + 1 ≡ len + length law.now }
+    ensures is_sum { IsSumOf (take result sums.new) (take len sums.old ∷ law.now ∷ []) }
+{
+    let end = len + law.len() - 1;
+    let next = &mut next[..end];
+    convolve_into(&sums[..len], law, next);
+    sums[..end].copy_from_slice(next);
+    end
+}
+
+// Writes the weights of the sum of the laws of some places. `next` is room to work in.
+fn sum_into(laws: &[Law], from: usize, count: usize, sums: &mut [u128], next: &mut [u128])
+    requires some { 1 ≤ count }
+    requires serves { Serves laws.now from count }
+    requires are_laws { All IsLaw (laws_at laws.now from count) }
+    requires fits { totals_of (laws_at laws.now from count) ≤ 2 ^ 120 }
+    requires width { length sums.old ≡ greatest_sum (laws_at laws.now from count) + 1 }
+    requires room { length next.old ≡ length sums.old }
+    ensures { IsSumOf sums.new (laws_at laws.now from count) }
+{
+    let first = law_of(laws, from, 0).weights();
+    let mut len = first.len();
+    sums[..len].copy_from_slice(first);
+    for place in 1..count {
+        let law = law_of(laws, from, place).weights();
+        len = add_law(sums, len, law, next);
+    }
+}
+
+/// The law of the sum of independent demands, one for each of `count` places from `from` on. A list of one law has that
+/// law at every place.
+///
+/// The laws are convolved one after another, with room for two laws of the sum.
+pub fn lead_sum(alloc: Global, laws: &[Law], from: usize, count: usize) -> Result<Law, SumErr>
+    requires some { 1 ≤ count }
+    requires serves { Serves laws.now from count }
+    requires short { count * greatest_in laws.now ≤ 4000000000 }
+    ensures is_sum { IfOk result (λ law. IsSumOf law (laws_at laws.now from count)) }
+    ensures fits { OnOk result (totals_of (laws_at laws.now from count) ≤ 2 ^ 120) }
+
+    // Where the product of the sums of weights fits, only memory can be wanting.
+    ensures width { IsErrOf result SumErr.Width ↔ (2 ^ 120 < totals_of (laws_at laws.now from count)) }
+{
+    let width = lead_width(laws, from, count);
+    if !totals_fit(laws, from, count) {
+        return Err(SumErr::Width);
+    }
+    let mut sums = vec![in alloc; 0; width]?;
+    let mut next = vec![in alloc; 0; width]?;
+    sum_into(laws, from, count, &mut sums, &mut next);
+    Ok(Law::from_weights(sums))
+}
+
+/// Writes the weights of the law that `lead_sum` gives into the first places of `sums`, and says how many they are. It
+/// takes no memory. What stands in the other places afterwards is left open.
+pub fn lead_into(laws: &[Law], from: usize, count: usize, sums: &mut [u128]) -> usize
+    requires some { 1 ≤ count }
+    requires serves { Serves laws.now from count }
+    requires short { count * greatest_in laws.now ≤ 4000000000 }
+    requires fits { totals_of (laws_at laws.now from count) ≤ 2 ^ 120 }
+    requires room { 2 * (count * greatest_in laws.now + 1) ≤ length sums.old }
+    ensures width { result ≡ greatest_sum (laws_at laws.now from count) + 1 }
+    ensures is_sum { IsSumOf (take result sums.new) (laws_at laws.now from count) }
+    ensures is_law { IsLaw (take result sums.new) }
+{
+    let width = lead_width(laws, from, count);
+    let (sums, next) = sums.split_at_mut(width);
+    sum_into(laws, from, count, sums, &mut next[..width]);
+    width
+}
