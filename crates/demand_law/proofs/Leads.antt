@@ -4,7 +4,7 @@ use Rattle.std.proofs.lemmas.List.Elements.{All-cons, All-push}
 use Rattle.std.proofs.Math.Nat.{mul-le-mul_right}
 use Rattle.demand_law.specs.Law.{IsLaw, greatest_of}
 use Rattle.demand_law.specs.Sequences.{law_at, laws_at, Serves, totals_of, greatest_in, greatest_sum, IsSumOf}
-use Rattle.demand_law.specs.ServedLaws.{greatest_sum-laws_at, laws_at-last, greatest_sum-laws_at_last, totals_of-laws_at_last, Serves_some}
+use Rattle.demand_law.specs.ServedLaws.{greatest_sum-laws_at, laws_at-last, greatest_sum-laws_at_last, totals_of-laws_at_last, Serves_less}
 use Rattle.demand_law.specs.LawSums.{IsLaw-IsSumOf, IsSumOf-one, IsSumOf-last}
 
 -- the sum of two laws is a law
@@ -40,4 +40,8 @@ sum_first laws from law here is =
 pub width_within : (laws : List (List ℕ)) (from place count : ℕ) → Serves laws from count → place < count → count * greatest_in laws ≤ 4000000000 → greatest_sum (laws_at laws from (place + 1)) ≤ 4000000000
 width_within laws from place count serves lt short =
     let places : place + 1 ≤ count = omega arith in
-    omega (arith, greatest_sum-laws_at laws from (place + 1) (Serves_some laws from count (omega arith) serves), mul-le-mul_right (greatest_in laws) places)
+    omega (arith, greatest_sum-laws_at laws from (place + 1) (Serves_less laws from (place + 1) count places serves), mul-le-mul_right (greatest_in laws) places)
+
+-- the sum of the laws of some places is a law
+pub lead_is_law : (law : List ℕ) (laws : List (List ℕ)) (from count : ℕ) → Serves laws from count → count * greatest_in laws ≤ 4000000000 → All IsLaw (laws_at laws from count) → totals_of (laws_at laws from count) ≤ 2 ^ 120 → IsSumOf law (laws_at laws from count) → IsLaw law
+lead_is_law law laws from count serves short all fits is = IsLaw-IsSumOf law (laws_at laws from count) is all fits (omega (arith, greatest_sum-laws_at laws from count serves))

@@ -29,11 +29,26 @@ greatest_in-All [] k d lt = absurd (omega arith)
 greatest_in-All (law ∷ laws) zero d lt = omega arith
 greatest_in-All (law ∷ laws) (suc k) d lt = omega (arith, greatest_in-All laws k d (omega arith))
 
--- the greatest demands of n places, against the greatest of the list
-pub greatest_sum-laws_at : (laws : List (List ℕ)) (from n : ℕ) → 0 < length laws → greatest_sum (laws_at laws from n) ≤ n * greatest_in laws
-greatest_sum-laws_at laws from zero some = omega arith
-greatest_sum-laws_at laws from (suc n) some =
-    omega (arith, greatest_sum-laws_at laws (suc from) n some, law_at_among (λ law. greatest_of law ≤ greatest_in laws) laws from some (greatest_in-All laws))
+pub Serves_less : (laws : List (List ℕ)) (from n count : ℕ) → n ≤ count → Serves laws from count → Serves laws from n
+Serves_less laws from n count le (inl one) = inl one
+Serves_less laws from n count le (inr listed) = inr (omega arith)
+
+-- a list that serves a place isn't empty
+pub Serves_some : (laws : List (List ℕ)) (from count : ℕ) → 0 < count → Serves laws from count → 0 < length laws
+Serves_some laws from count some (inl one) = omega arith
+Serves_some laws from count some (inr listed) = omega arith
+
+-- the greatest demands of some places, against the greatest of the list
+pub greatest_sum-laws_at : (laws : List (List ℕ)) (from count : ℕ) → Serves laws from count → greatest_sum (laws_at laws from count) ≤ count * greatest_in laws
+greatest_sum-laws_at laws from zero serves = omega arith
+greatest_sum-laws_at laws from (suc count) serves = sum_le from (suc count)
+  where
+    some : 0 < length laws
+    some = Serves_some laws from (suc count) (omega arith) serves
+
+    sum_le : (from n : ℕ) → greatest_sum (laws_at laws from n) ≤ n * greatest_in laws
+    sum_le from zero = omega arith
+    sum_le from (suc n) = omega (arith, sum_le (suc from) n, law_at_among (λ law. greatest_of law ≤ greatest_in laws) laws from some (greatest_in-All laws))
 
 -- ---- one place more
 pub laws_at-last : (laws : List (List ℕ)) (from n : ℕ) → laws_at laws from (n + 1) ≡ laws_at laws from n ++ law_at laws (from + n) ∷ []
@@ -52,15 +67,6 @@ laws_at-split laws from n count le = ap (laws_at laws from) whole ∙ laws_from-
   where
     whole : count ≡ n + (count - n)
     whole = omega arith
-
-pub Serves_less : (laws : List (List ℕ)) (from n count : ℕ) → n ≤ count → Serves laws from count → Serves laws from n
-Serves_less laws from n count le (inl one) = inl one
-Serves_less laws from n count le (inr listed) = inr (omega arith)
-
--- a list that serves a place isn't empty
-pub Serves_some : (laws : List (List ℕ)) (from count : ℕ) → 0 < count → Serves laws from count → 0 < length laws
-Serves_some laws from count some (inl one) = omega arith
-Serves_some laws from count some (inr listed) = omega arith
 
 pub greatest_sum-laws_at_le : (laws : List (List ℕ)) (from n count : ℕ) → n ≤ count → greatest_sum (laws_at laws from n) ≤ greatest_sum (laws_at laws from count)
 greatest_sum-laws_at_le laws from n count le =

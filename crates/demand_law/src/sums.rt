@@ -106,6 +106,7 @@ fn lead_width(laws: &[Law], from: usize, count: usize) -> usize
     requires serves { Serves laws.now from count }
     requires short { count * greatest_in laws.now ≤ 4000000000 }
     ensures width { result ≡ greatest_sum (laws_at laws.now from count) + 1 }
+    ensures within { result ≤ count * greatest_in laws.now + 1 }
     ensures are_laws { All IsLaw (laws_at laws.now from count) }
 {
     let mut width = 1;
@@ -137,7 +138,7 @@ fn add_law(sums: &mut [u128], len: usize, law: &[u128], next: &mut [u128]) -> us
     requires some { 0 < len }
     requires more { 0 < length law.now }
     requires room { len + length law.now ≤ length sums.old + 1 }
-    requires same_room { length next.old ≡ length sums.old }
+    requires room_to_work { length sums.old ≤ length next.old }
     requires fits { sum (take len sums.old) * sum law.now ≤ 2 ^ 120 }
     ensures width { result + 1 ≡ len + length law.now }
     ensures is_sum { IsSumOf (take result sums.new) (take len sums.old ∷ law.now ∷ []) }
@@ -156,7 +157,7 @@ fn sum_into(laws: &[Law], from: usize, count: usize, sums: &mut [u128], next: &m
     requires are_laws { All IsLaw (laws_at laws.now from count) }
     requires fits { totals_of (laws_at laws.now from count) ≤ 2 ^ 120 }
     requires width { length sums.old ≡ greatest_sum (laws_at laws.now from count) + 1 }
-    requires room { length next.old ≡ length sums.old }
+    requires room_to_work { length sums.old ≤ length next.old }
     ensures { IsSumOf sums.new (laws_at laws.now from count) }
 {
     let first = law_of(laws, from, 0).weights();
@@ -206,6 +207,6 @@ pub fn lead_into(laws: &[Law], from: usize, count: usize, sums: &mut [u128]) -> 
 {
     let width = lead_width(laws, from, count);
     let (sums, next) = sums.split_at_mut(width);
-    sum_into(laws, from, count, sums, &mut next[..width]);
+    sum_into(laws, from, count, sums, next);
     width
 }
