@@ -12,10 +12,10 @@ use Rattle.demand_law.specs.WeightedSums.{weighted_more, weighted_front, weighte
 use Rattle.demand_law.specs.LawSums.{one_at-same, one_at-other, one_at_nonnegative, one_at_most, weight_of_sum-pair}
 
 -- the weights after the first n demands of a law whose weights are added, each factor times, from a place on
-abbrev pub Adds : List ℕ → List ℕ → ℕ → ℕ → List ℕ → ℕ → Type 0
-Adds old now at factor law n = (e : ℕ) → pos (get_or now e 0) ≡ pos (get_or old e 0) +ℤ pos factor *ℤ weight_beyond at (take n law) e
+abbrev pub AddsSoFar : List ℕ → List ℕ → ℕ → ℕ → List ℕ → ℕ → Type 0
+AddsSoFar old now at factor law n = (e : ℕ) → pos (get_or now e 0) ≡ pos (get_or old e 0) +ℤ pos factor *ℤ weight_beyond at (take n law) e
 
-module _ (old now : List ℕ) (at factor : ℕ) (law : List ℕ) (n : ℕ) (within : n < length law) (so_far : Adds old now at factor law n) where
+module _ (old now : List ℕ) (at factor : ℕ) (law : List ℕ) (n : ℕ) (within : n < length law) (so_far : AddsSoFar old now at factor law n) where
   more : (e : ℕ) → pos (get_or old e 0) +ℤ pos factor *ℤ weight_beyond at (take (n + 1) law) e ≡ pos (get_or now e 0) +ℤ pos (factor * get_or law n 0) *ℤ one_at (at + n) e
   more e =
       let f = λ (d : ℕ). one_at (at + d) e in
@@ -28,7 +28,7 @@ module _ (old now : List ℕ) (at factor : ℕ) (law : List ℕ) (n : ℕ) (with
   here : pos (get_or old (at + n) 0) +ℤ pos factor *ℤ weight_beyond at (take (n + 1) law) (at + n) ≡ pos (get_or now (at + n) 0 + factor * get_or law n 0)
   here = more (at + n) ∙ ap (λ z. pos (get_or now (at + n) 0) +ℤ pos (factor * get_or law n 0) *ℤ z) (one_at-same (at + n)) ∙ ap (λ z. pos (get_or now (at + n) 0) +ℤ z) (Z.mul_one (pos (factor * get_or law n 0)))
 
-  pub adds_more : at + n < length now → Adds old (set now (at + n) (get_or now (at + n) 0 + factor * get_or law n 0)) at factor law (n + 1)
+  pub adds_more : at + n < length now → AddsSoFar old (set now (at + n) (get_or now (at + n) 0 + factor * get_or law n 0)) at factor law (n + 1)
   adds_more room e = by_place (cases_eq e (at + n))
     where
       by_place : (e ≡ at + n) ⊎ (e ≡ at + n → ⊥) → pos (get_or (set now (at + n) (get_or now (at + n) 0 + factor * get_or law n 0)) e 0) ≡ pos (get_or old e 0) +ℤ pos factor *ℤ weight_beyond at (take (n + 1) law) e
@@ -50,8 +50,8 @@ module _ (old now : List ℕ) (at factor : ℕ) (law : List ℕ) (n : ℕ) (with
 
 -- ---- two laws
 -- the weights after the first n demands of the first law
-abbrev pub Sums : List ℕ → List ℕ → ℕ → List ℕ → Type 0
-Sums first second n sums = (e : ℕ) → pos (get_or sums e 0) ≡ weighted (take n first) (λ d. weight_beyond d second e)
+abbrev pub SumsSoFar : List ℕ → List ℕ → ℕ → List ℕ → Type 0
+SumsSoFar first second n sums = (e : ℕ) → pos (get_or sums e 0) ≡ weighted (take n first) (λ d. weight_beyond d second e)
 
 weight_beyond_nonnegative : (k : ℕ) (law : List ℕ) (e : ℕ) → pos 0 ≤ℤ weight_beyond k law e
 weight_beyond_nonnegative k law e = weighted_nonnegative law (λ d. one_at (k + d) e) (λ d lt. one_at_nonnegative (k + d) e)
@@ -60,7 +60,7 @@ weight_beyond_most : (k : ℕ) (law : List ℕ) (e : ℕ) → weight_beyond k la
 weight_beyond_most k law e =
     subst (λ (z : ℤ). weight_beyond k law e ≤ℤ z) (Z.mul_one (pos (sum law))) (weighted_most law (λ d. one_at (k + d) e) (pos 1) (λ d lt. one_at_most (k + d) e))
 
-module _ (first second : List ℕ) (n : ℕ) (sums : List ℕ) (within : n < length first) (so_far : Sums first second n sums) where
+module _ (first second : List ℕ) (n : ℕ) (sums : List ℕ) (within : n < length first) (so_far : SumsSoFar first second n sums) where
   one_more : (e : ℕ) → weighted (take (n + 1) first) (λ d. weight_beyond d second e) ≡ pos (get_or sums e 0) +ℤ pos (get_or first n 0) *ℤ weight_beyond n second e
   one_more e =
       weighted_more first n (λ d. weight_beyond d second e) within
@@ -72,22 +72,22 @@ module _ (first second : List ℕ) (n : ℕ) (sums : List ℕ) (within : n < len
       let whole = weighted_most first (λ d. weight_beyond d second e) (pos (sum second)) (λ d lt. weight_beyond_most d second e) in
       omega (arith, ints, one_more e, front, whole, fits)
 
-  pub sums_more : (new : List ℕ) → ((e : ℕ) → pos (get_or new e 0) ≡ pos (get_or sums e 0) +ℤ pos (get_or first n 0) *ℤ weight_beyond n second e) → Sums first second (n + 1) new
+  pub sums_more : (new : List ℕ) → ((e : ℕ) → pos (get_or new e 0) ≡ pos (get_or sums e 0) +ℤ pos (get_or first n 0) *ℤ weight_beyond n second e) → SumsSoFar first second (n + 1) new
   sums_more new adds e = adds e ∙ sym (one_more e)
 
   -- a demand without weight adds nothing
-  pub sums_skip : get_or first n 0 ≡ 0 → Sums first second (n + 1) sums
+  pub sums_skip : get_or first n 0 ≡ 0 → SumsSoFar first second (n + 1) sums
   sums_skip none e =
       sym (one_more e ∙ ap (λ w. pos (get_or sums e 0) +ℤ pos w *ℤ weight_beyond n second e) none ∙ ap (λ z. pos (get_or sums e 0) +ℤ z) (Z.zero_mul (weight_beyond n second e)) ∙ Z.add_zero (pos (get_or sums e 0)))
 
-pub sums_none : (first second : List ℕ) (n : ℕ) → Sums first second 0 (replicate n 0)
+pub sums_none : (first second : List ℕ) (n : ℕ) → SumsSoFar first second 0 (replicate n 0)
 sums_none first second n e = ap pos (by_place (cases_lt e n))
   where
     by_place : (e < n) ⊎ (n ≤ e) → get_or {A = ℕ} (replicate n 0) e 0 ≡ 0
     by_place (inl lt) = get_or-replicate n e 0 0 lt
     by_place (inr le) = get_or_past (replicate n 0) e 0 (omega (arith, length-replicate {A = ℕ} n 0))
 
-pub sums_all : (first second : List ℕ) (n : ℕ) (sums : List ℕ) → 0 < length first → 0 < length second → length sums + 1 ≡ length first + length second → length first ≤ n → Sums first second n sums → IsSumOf sums (first ∷ second ∷ [])
+pub sums_all : (first second : List ℕ) (n : ℕ) (sums : List ℕ) → 0 < length first → 0 < length second → length sums + 1 ≡ length first + length second → length first ≤ n → SumsSoFar first second n sums → IsSumOf sums (first ∷ second ∷ [])
 sums_all first second n sums some others width all so_far = record {
   weights = λ e. so_far e ∙ ap (λ ws. weighted ws (λ d. weight_beyond d second e)) (take_all n first all) ∙ sym (weight_of_sum-pair first second e);
   width = omega arith;

@@ -54,8 +54,8 @@ fn add_scaled(sums: &mut [u128], at: usize, factor: u128, law: &[u128])
 
 // Writes the weights of the sum of two laws.
 fn convolve_into(first: &[u128], second: &[u128], sums: &mut [u128])
-    requires some { 0 < length first.now }
-    requires others { 0 < length second.now }
+    requires first_some { 0 < length first.now }
+    requires second_some { 0 < length second.now }
     requires width { length sums.old + 1 ≡ length first.now + length second.now }
     requires fits { sum first.now * sum second.now ≤ 2 ^ 120 }
     ensures { IsSumOf sums.new (first.now ∷ second.now ∷ []) }
@@ -135,8 +135,8 @@ fn totals_fit(laws: &[Law], from: usize, count: usize) -> bool
 
 // Puts the law of the sum with one law more in place of the first `len` weights, and says how many it has.
 fn add_law(sums: &mut [u128], len: usize, law: &[u128], next: &mut [u128]) -> usize
-    requires some { 0 < len }
-    requires more { 0 < length law.now }
+    requires sums_some { 0 < len }
+    requires law_some { 0 < length law.now }
     requires room { len + length law.now ≤ length sums.old + 1 }
     requires room_to_work { length sums.old ≤ length next.old }
     requires fits { sum (take len sums.old) * sum law.now ≤ 2 ^ 120 }
@@ -209,4 +209,58 @@ pub fn lead_into(laws: &[Law], from: usize, count: usize, sums: &mut [u128]) -> 
     let (sums, next) = sums.split_at_mut(width);
     sum_into(laws, from, count, sums, next);
     width
+}
+
+#[cfg(test)]
+mod tests {
+    use super::*;
+    use std::test::Fail;
+
+    #[test]
+    fn two_demands(rt: HostRuntime) -> Result<(), Fail> {
+        let coin = Law::from_points(rt.alloc(), &[(0, 1), (1, 1)])?;
+        let gaps = Law::from_points(rt.alloc(), &[(3, 2), (0, 1)])?;
+        let coins = convolve(rt.alloc(), &coin, &coin)?;
+        assert_eq!(rt; coins.weights(), [1, 2, 1].as_slice());
+        let mixed = convolve(rt.alloc(), &gaps, &coin)?;
+        assert_eq!(rt; mixed.weights(), [1, 1, 0, 2, 2].as_slice());
+        Ok(())
+    }
+
+    #[test]
+    fn three_dice(rt: HostRuntime) -> Result<(), Fail> {
+        let die = Law::from_points(
+            rt.alloc(),
+            &[(1, 1), (2, 1), (3, 1), (4, 1), (5, 1), (6, 1)],
+        )?;
+        let total = lead_sum(rt.alloc(), &[die], 7, 3)?;
+        assert_eq!(rt; total.greatest(), 18);
+        assert_eq!(rt; total.total(), 216);
+        assert_eq!(rt; total.weights(), [0, 0, 0, 1, 3, 6, 10, 15, 21, 25, 27, 27, 25, 21, 15, 10, 6, 3, 1].as_slice());
+        Ok(())
+    }
+
+    #[test]
+    fn greatest_width(rt: HostRuntime) -> Result<(), Fail> {
+        let wide = [Law::from_points(rt.alloc(), &[(0, 999_999_999), (1, 1)])?];
+        assert_eq!(rt; lead_sum(rt.alloc(), &wide, 0, 4)?.greatest(), 4);
+        assert_eq!(rt; lead_sum(rt.alloc(), &wide, 0, 5).err(), Some(SumErr::Width));
+        Ok(())
+    }
+
+    #[test]
+    fn places_of_a_list(rt: HostRuntime) -> Result<(), Fail> {
+        let laws = [
+            Law::from_points(rt.alloc(), &[(9, 5)])?,
+            Law::from_points(rt.alloc(), &[(0, 1), (2, 2)])?,
+            Law::from_points(rt.alloc(), &[(0, 3), (1, 1)])?,
+        ];
+        let sum = lead_sum(rt.alloc(), &laws, 1, 2)?;
+        assert_eq!(rt; sum.weights(), [3, 1, 6, 2].as_slice());
+        let mut sums = [7; 40];
+        let width = lead_into(&laws, 1, 2, &mut sums);
+        assert_eq!(rt; width, 4);
+        assert_eq!(rt; &sums[..4], [3, 1, 6, 2].as_slice());
+        Ok(())
+    }
 }
