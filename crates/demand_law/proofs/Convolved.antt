@@ -1,5 +1,5 @@
 -- A law added to the weights of a sum, demand by demand.
-use Rattle.std.proofs.Common.{◌≡◌, ℕ, ◌+◌, ◌*◌, ◌^◌, ◌<◌, ◌≤◌, ℤ, pos, ◌+ℤ◌, ◌*ℤ◌, ◌≤ℤ◌, List, [], ◌∷◌, length, sum, take, get_or, refl, sym, ◌∙◌, ap, subst, arith, replicate, ◌⊎◌, inl, inr}
+use Rattle.std.proofs.Common.{◌≡◌, ℕ, ◌+◌, ◌*◌, ◌<◌, ◌≤◌, ℤ, pos, ◌+ℤ◌, ◌*ℤ◌, ◌≤ℤ◌, List, [], ◌∷◌, length, sum, take, get_or, sym, ◌∙◌, ap, subst, arith, replicate, ◌⊎◌, inl, inr}
 use Rattle.std.proofs.Math.ListN.{set}
 use Rattle.std.proofs.lemmas.Int.{ints}
 use Rattle.std.proofs.lemmas.List.{get_or-set_same, get_or-set_other, get_or-replicate, length-replicate, get_or_past, take_all}
@@ -14,6 +14,11 @@ use Rattle.demand_law.specs.LawSums.{one_at-same, one_at-other, one_at_nonnegati
 -- the weights after the first n demands of a law whose weights are added, each factor times, from a place on
 abbrev pub AddsSoFar : List ℕ → List ℕ → ℕ → ℕ → List ℕ → ℕ → Type 0
 AddsSoFar old now at factor law n = (e : ℕ) → pos (get_or now e 0) ≡ pos (get_or old e 0) +ℤ pos factor *ℤ weight_beyond at (take n law) e
+
+-- a factor of 0 adds nothing
+pub adds_nothing : (old : List ℕ) (at factor : ℕ) (law : List ℕ) (e : ℕ) → factor ≡ 0 → pos (get_or old e 0) ≡ pos (get_or old e 0) +ℤ pos factor *ℤ weight_beyond at law e
+adds_nothing old at factor law e none =
+    sym (ap (λ w. pos (get_or old e 0) +ℤ pos w *ℤ weight_beyond at law e) none ∙ ap (λ z. pos (get_or old e 0) +ℤ z) (Z.zero_mul (weight_beyond at law e)) ∙ Z.add_zero (pos (get_or old e 0)))
 
 module _ (old now : List ℕ) (at factor : ℕ) (law : List ℕ) (n : ℕ) (within : n < length law) (so_far : AddsSoFar old now at factor law n) where
   more : (e : ℕ) → pos (get_or old e 0) +ℤ pos factor *ℤ weight_beyond at (take (n + 1) law) e ≡ pos (get_or now e 0) +ℤ pos (factor * get_or law n 0) *ℤ one_at (at + n) e
@@ -74,11 +79,6 @@ module _ (first second : List ℕ) (n : ℕ) (sums : List ℕ) (within : n < len
 
   pub sums_more : (new : List ℕ) → ((e : ℕ) → pos (get_or new e 0) ≡ pos (get_or sums e 0) +ℤ pos (get_or first n 0) *ℤ weight_beyond n second e) → SumsSoFar first second (n + 1) new
   sums_more new adds e = adds e ∙ sym (one_more e)
-
-  -- a demand without weight adds nothing
-  pub sums_skip : get_or first n 0 ≡ 0 → SumsSoFar first second (n + 1) sums
-  sums_skip none e =
-      sym (one_more e ∙ ap (λ w. pos (get_or sums e 0) +ℤ pos w *ℤ weight_beyond n second e) none ∙ ap (λ z. pos (get_or sums e 0) +ℤ z) (Z.zero_mul (weight_beyond n second e)) ∙ Z.add_zero (pos (get_or sums e 0)))
 
 pub sums_none : (first second : List ℕ) (n : ℕ) → SumsSoFar first second 0 (replicate n 0)
 sums_none first second n e = ap pos (by_place (cases_lt e n))

@@ -1,5 +1,5 @@
 -- The law of a lead time, law by law.
-use Rattle.std.proofs.Common.{◌≡◌, ℕ, zero, suc, ◌+◌, ◌-◌, ◌*◌, ◌^◌, ◌<◌, ◌≤◌, List, [], ◌∷◌, ◌++◌, length, sum, take, sym, ◌∙◌, ap, subst, arith, add-zero, All, ◌⊎◌, inl, inr}
+use Rattle.std.proofs.Common.{◌≡◌, ℕ, ◌+◌, ◌*◌, ◌^◌, ◌<◌, ◌≤◌, List, [], ◌∷◌, ◌++◌, sum, sym, ◌∙◌, ap, subst, arith, add-zero, All}
 use Rattle.std.proofs.lemmas.List.Elements.{All-cons, All-push}
 use Rattle.std.proofs.Math.Nat.{mul-le-mul_right}
 use Rattle.demand_law.specs.Law.{IsLaw, greatest_of}

@@ -1,20 +1,19 @@
 -- The law of a sum: what depends on a sum of demands alone goes over to the sum's own law.
-use Rattle.std.proofs.Common.{◌≡◌, ℕ, zero, suc, ◌+◌, ◌-◌, ◌*◌, ◌^◌, ◌<◌, ◌≤◌, ℤ, pos, ◌+ℤ◌, ◌*ℤ◌, ◌≤ℤ◌, unsigned_abs, List, [], ◌∷◌, ◌++◌, length, sum, slice_index, get_or, map, Bool, true, false, if◌then◌else◌, nat_eq, ◌==◌, refl, sym, ◌∙◌, ap, subst, arith, zero-add, suc-add, ne_eqb, All, mul-le-mul_left, replicate, ◌⊎◌, inl, inr}
-use Rattle.std.specs.List.{range_with_len}
+use Rattle.std.proofs.Common.{◌≡◌, ℕ, zero, suc, ◌+◌, ◌-◌, ◌^◌, ◌<◌, ◌≤◌, ℤ, pos, ◌+ℤ◌, ◌*ℤ◌, ◌≤ℤ◌, unsigned_abs, List, [], ◌∷◌, ◌++◌, length, sum, slice_index, take, Bool, true, false, if◌then◌else◌, ◌==◌, refl, sym, ◌∙◌, ap, subst, arith, zero-add, suc-add, ne_eqb, All, mul-le-mul_left, replicate, ◌⊎◌, inl, inr}
 use Rattle.std.proofs.lemmas.Int.{ints}
 use Rattle.std.proofs.lemmas.List.{get_or_past, get_or-replicate}
 use Rattle.std.proofs.lemmas.Grind.{same_number_lists}
 use Rattle.std.proofs.lemmas.Bool.{cases_lt}
 use Rattle.std.proofs.lemmas.List.Sums.{sum_by-append, get_or-le-sum_by}
-use Rattle.std.proofs.lemmas.List.FromFn.{fill_by_all, get_or-map-range_with_len, length-map-range_with_len}
+use Rattle.std.proofs.lemmas.List.FromFn.{get_or-map-range_with_len, length-map-range_with_len}
 use Rattle.std.specs.Int.Signed.{≤ℤ_refl}
 use lib.Dec.{eqb-zero-suc, eqb-suc-zero, eqb-suc-suc}
 use Rattle.demand_law.specs.Law.{weighted, IsLaw, greatest_of}
-use Rattle.demand_law.specs.Sequences.{over, IsSequence, totals_of, one_at, weight_of_sum, greatest_sum, IsSumOf, law_of_sum}
+use Rattle.demand_law.specs.Sequences.{over, laws_from, totals_of, one_at, weight_of_sum, greatest_sum, IsSumOf, law_of_sum}
 use Rattle.demand_law.specs.Integers as Z
 use Rattle.demand_law.specs.Integers.{weight_mono}
-use Rattle.demand_law.specs.WeightedSums.{sum-cons, weighted-ext, weighted-zero, weighted-const, weighted_nonnegative, weighted_term}
-use Rattle.demand_law.specs.SequenceSums.{sum_sequence, over-ext, over-zero, over-scale_right, over-const, over-weighted, over-append, over_nonnegative, greatest_sum-append}
+use Rattle.demand_law.specs.WeightedSums.{sum-cons, weighted-ext, weighted-zero, weighted-const, weighted_term}
+use Rattle.demand_law.specs.SequenceSums.{sum_sequence, over-ext, over-zero, over-scale_right, over-const, over-weighted, over-append, over_nonnegative, over_from-front, greatest_sum-append}
 
 -- ---- tests for equality, as numbers
 pub one_at-same : (e : ℕ) → one_at e e ≡ pos 1
@@ -90,6 +89,11 @@ regroup law laws h is =
     ∙ over-weighted laws ones (λ ds e. one_at (sum ds) e *ℤ h e)
     ∙ weighted-ext ones _ _ (λ e. over-scale_right (h e) laws (λ ds. one_at (sum ds) e) ∙ ap (λ z. z *ℤ h e) (sym (is.weights e)))
     ∙ weighted-replicate law h
+
+-- over k periods and n more, whose laws have one sum of weights, w
+pub regroup_front : (law : ℕ → List ℕ) (w : ℕ) (same : (t : ℕ) → sum (law t) ≡ w) (lead : List ℕ) (k t n : ℕ) (h : ℕ → ℤ) → IsSumOf lead (laws_from law t k) → over (laws_from law t (k + n)) (λ ds. h (sum (take k ds))) ≡ pos (w ^ n) *ℤ weighted lead h
+regroup_front law w same lead k t n h is =
+    over_from-front law w same k t n (λ ds. h (sum ds)) ∙ ap (λ z. pos (w ^ n) *ℤ z) (regroup lead (laws_from law t k) h is)
 
 -- ---- the weights of a sum
 pub weight_of_sum_nonnegative : (laws : List (List ℕ)) (e : ℕ) → pos 0 ≤ℤ weight_of_sum laws e

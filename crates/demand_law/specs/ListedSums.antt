@@ -1,5 +1,5 @@
 -- A sum over sequences is the sum over the list of them.
-use Rattle.std.proofs.Common.{◌≡◌, ℕ, suc, ◌+◌, ◌*◌, ◌+ℤ◌, ◌*ℤ◌, List, [], ◌∷◌, ◌++◌, map, length, ℤ, pos, refl, sym, ◌∙◌, ap, arith, slice_index, flat_map, mul_comm, zero, add-one}
+use Rattle.std.proofs.Common.{◌≡◌, ℕ, suc, ◌+◌, ◌*◌, ◌+ℤ◌, ◌*ℤ◌, List, [], ◌∷◌, ◌++◌, map, length, ℤ, pos, refl, sym, ◌∙◌, ap, arith, slice_index, flat_map, mul_comm, zero}
 use Rattle.std.specs.List.{range_with_len}
 use Rattle.std.proofs.lemmas.Int.{ints}
 use Rattle.demand_law.specs.Law.{weighted}

@@ -1,8 +1,7 @@
 -- Laws of sums over sequences.
-use Rattle.std.proofs.Common.{◌≡◌, ℕ, zero, suc, ◌+◌, ◌-◌, ◌*◌, ◌^◌, ◌<◌, ◌≤◌, ℤ, pos, ◌+ℤ◌, ◌-ℤ◌, ◌*ℤ◌, ◌≤ℤ◌, List, [], ◌∷◌, ◌++◌, length, take, drop, sum, get_or, refl, sym, ◌∙◌, ap, subst, arith, zero-add, suc-add, add-suc, add-zero, mul_assoc}
+use Rattle.std.proofs.Common.{◌≡◌, ℕ, zero, suc, ◌+◌, ◌*◌, ◌^◌, ◌<◌, ◌≤◌, ℤ, pos, ◌+ℤ◌, ◌-ℤ◌, ◌*ℤ◌, ◌≤ℤ◌, List, [], ◌∷◌, ◌++◌, length, take, drop, sum, slice_index, slice_index_or, refl, sym, ◌∙◌, ap, subst, arith, zero-add, suc-add, add-zero, mul_assoc}
 use Rattle.std.proofs.Math.Nat.{pow-zero}
-use Rattle.std.specs.Int.Signed.{≤ℤ_refl}
-use Rattle.demand_law.specs.Law.{weighted}
+use Rattle.demand_law.specs.Law.{weighted, greatest_of}
 use Rattle.demand_law.specs.Sequences.{over, IsSequence, laws_from, totals_of, greatest_sum}
 use Rattle.demand_law.specs.Integers as Z
 use Rattle.demand_law.specs.WeightedSums.{sum-cons, weighted-ext, weighted-ext_within, weighted-add, weighted-sub, weighted-scale, weighted-mono, weighted-const, weighted-zero, weighted-swap}
@@ -37,6 +36,13 @@ sequence_back [] back ds s = s
 sequence_back (law ∷ front) back [] s = absurd s
 sequence_back (law ∷ front) back (d ∷ ds) s = sequence_back front back ds s.1
 
+-- each demand is one of its law
+pub sequence_at : (laws : List (List ℕ)) (ds : List ℕ) (k : ℕ) → IsSequence laws ds → k < length laws → slice_index ds k < length (slice_index_or laws k [])
+sequence_at [] ds k s lt = absurd (omega arith)
+sequence_at (law ∷ laws) [] k s lt = absurd s
+sequence_at (law ∷ laws) (d ∷ ds) zero s lt = s.0
+sequence_at (law ∷ laws) (d ∷ ds) (suc k) s lt = sequence_at laws ds k s.1 (omega arith)
+
 -- ---- the laws of periods
 pub length-laws_from : (law : ℕ → List ℕ) (t n : ℕ) → length (laws_from law t n) ≡ n
 length-laws_from law t zero = refl
@@ -60,6 +66,19 @@ laws_from-append law t (suc k) n =
   where
     moved : suc t + k ≡ t + suc k
     moved = omega arith
+
+pub slice_index_or-laws_from : (law : ℕ → List ℕ) (t n k : ℕ) (d : List ℕ) → k < n → slice_index_or (laws_from law t n) k d ≡ law (t + k)
+slice_index_or-laws_from law t zero k d lt = absurd (omega arith)
+slice_index_or-laws_from law t (suc n) zero d lt = ap law (sym (add-zero t))
+slice_index_or-laws_from law t (suc n) (suc k) d lt = slice_index_or-laws_from law (suc t) n k d (omega arith) ∙ ap law moved
+  where
+    moved : suc t + k ≡ t + suc k
+    moved = omega arith
+
+-- laws of greatest demand m or less
+pub greatest_sum_laws_from : (law : ℕ → List ℕ) (m t n : ℕ) → ((s : ℕ) → greatest_of (law s) ≤ m) → greatest_sum (laws_from law t n) ≤ n * m
+greatest_sum_laws_from law m t zero most = omega arith
+greatest_sum_laws_from law m t (suc n) most = omega (arith, most t, greatest_sum_laws_from law m (suc t) n most)
 
 -- one period more
 pub laws_from-last : (law : ℕ → List ℕ) (t n : ℕ) → laws_from law t (n + 1) ≡ laws_from law t n ++ law (t + n) ∷ []

@@ -1,10 +1,10 @@
 -- The laws of a list that serve places.
-use Rattle.std.proofs.Common.{◌≡◌, ℕ, zero, suc, ◌+◌, ◌*◌, ◌<◌, ◌≤◌, max, List, [], ◌∷◌, ◌++◌, ◌-◌, length, sum, mul-le-mul_left, slice_index_or, refl, sym, ◌∙◌, ap, subst, arith, All, ◌⊎◌, inl, inr}
+use Rattle.std.proofs.Common.{◌≡◌, ℕ, zero, suc, ◌+◌, ◌*◌, ◌<◌, ◌≤◌, List, [], ◌∷◌, ◌++◌, ◌-◌, length, sum, mul-le-mul_left, slice_index_or, refl, sym, ◌∙◌, ap, subst, arith, All, ◌⊎◌, inl, inr}
 use Rattle.std.proofs.lemmas.List.{get_or_past, get_or_default}
 use Rattle.std.proofs.lemmas.Bool.{cases_lt}
 use Rattle.demand_law.specs.Law.{IsLaw, greatest_of}
-use Rattle.demand_law.specs.Sequences.{laws_from, law_at, Serves, laws_at, totals_of, greatest_in, greatest_sum}
-use Rattle.demand_law.specs.SequenceSums.{laws_from-append, laws_from-last, totals_of-append, greatest_sum-append}
+use Rattle.demand_law.specs.Sequences.{law_at, Serves, laws_at, totals_of, greatest_in, greatest_sum}
+use Rattle.demand_law.specs.SequenceSums.{greatest_sum_laws_from, laws_from-append, laws_from-last, totals_of-append, greatest_sum-append}
 use Rattle.demand_law.specs.LawSums.{totals_of_positive}
 
 -- a place of the list
@@ -41,14 +41,8 @@ Serves_some laws from count some (inr listed) = omega arith
 -- the greatest demands of some places, against the greatest of the list
 pub greatest_sum-laws_at : (laws : List (List ℕ)) (from count : ℕ) → Serves laws from count → greatest_sum (laws_at laws from count) ≤ count * greatest_in laws
 greatest_sum-laws_at laws from zero serves = omega arith
-greatest_sum-laws_at laws from (suc count) serves = sum_le from (suc count)
-  where
-    some : 0 < length laws
-    some = Serves_some laws from (suc count) (omega arith) serves
-
-    sum_le : (from n : ℕ) → greatest_sum (laws_at laws from n) ≤ n * greatest_in laws
-    sum_le from zero = omega arith
-    sum_le from (suc n) = omega (arith, sum_le (suc from) n, law_at_among (λ law. greatest_of law ≤ greatest_in laws) laws from some (greatest_in-All laws))
+greatest_sum-laws_at laws from (suc count) serves =
+    greatest_sum_laws_from (law_at laws) (greatest_in laws) from (suc count) (λ place. law_at_among (λ law. greatest_of law ≤ greatest_in laws) laws place (Serves_some laws from (suc count) (omega arith) serves) (greatest_in-All laws))
 
 -- ---- one place more
 pub laws_at-last : (laws : List (List ℕ)) (from n : ℕ) → laws_at laws from (n + 1) ≡ laws_at laws from n ++ law_at laws (from + n) ∷ []

@@ -42,11 +42,15 @@ fn product_fits(a: u128, b: u128) -> bool
 }
 
 // Adds the weights of a law, each of them `factor` times, from a place on.
+#[tactic(auto, using(crate::proofs::Convolved::adds_nothing))]
 fn add_scaled(sums: &mut [u128], at: usize, factor: u128, law: &[u128])
     requires room { at + length law.now ≤ length sums.old }
     requires fits { (e : ℕ) → (pos (slice_index sums.old e) +ℤ pos factor *ℤ weight_beyond at law.now e) ≤ℤ pos (2 ^ 120) }
     ensures { (e : ℕ) → pos (slice_index sums.new e) ≡ pos (slice_index sums.old e) +ℤ pos factor *ℤ weight_beyond at law.now e }
 {
+    if factor == 0 {
+        return;
+    }
     for (d, weight) in law.iter().enumerate() {
         sums[at + d] += factor * *weight;
     }
@@ -62,9 +66,7 @@ fn convolve_into(first: &[u128], second: &[u128], sums: &mut [u128])
 {
     sums.fill(0);
     for (d, weight) in first.iter().enumerate() {
-        if *weight != 0 {
-            add_scaled(sums, d, *weight, second);
-        }
+        add_scaled(sums, d, *weight, second);
     }
 }
 
@@ -236,7 +238,13 @@ mod tests {
         let total = lead_sum(rt.alloc(), &[die], 7, 3)?;
         assert_eq!(rt; total.greatest(), 18);
         assert_eq!(rt; total.total(), 216);
-        assert_eq!(rt; total.weights(), [0, 0, 0, 1, 3, 6, 10, 15, 21, 25, 27, 27, 25, 21, 15, 10, 6, 3, 1].as_slice());
+        assert_eq!(rt;
+            total.weights(),
+            [
+                0, 0, 0, 1, 3, 6, 10, 15, 21, 25, 27, 27, 25, 21, 15, 10, 6, 3, 1
+            ]
+            .as_slice()
+        );
         Ok(())
     }
 
@@ -244,7 +252,10 @@ mod tests {
     fn greatest_width(rt: HostRuntime) -> Result<(), Fail> {
         let wide = [Law::from_points(rt.alloc(), &[(0, 999_999_999), (1, 1)])?];
         assert_eq!(rt; lead_sum(rt.alloc(), &wide, 0, 4)?.greatest(), 4);
-        assert_eq!(rt; lead_sum(rt.alloc(), &wide, 0, 5).err(), Some(SumErr::Width));
+        assert_eq!(rt;
+            lead_sum(rt.alloc(), &wide, 0, 5).err(),
+            Some(SumErr::Width)
+        );
         Ok(())
     }
 

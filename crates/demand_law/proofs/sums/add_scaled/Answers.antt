@@ -1,4 +1,4 @@
-use Rattle.std.proofs.Common.{ℕ, ◌+◌, ◌*◌, ◌^◌, ◌≤◌, get_or, arith}
+use Rattle.std.proofs.Common.{◌+◌, ◌^◌, arith}
 use Rattle.demand_law.proofs.Convolved.{adds_more, adds_fits}
 use Rattle.demand_law.proofs.sums.add_scaled.Goals as goal
 

@@ -1,7 +1,7 @@
-use Rattle.std.proofs.Common.{ℕ, ◌≡◌, ◌+◌, ◌*◌, ◌^◌, ◌≤◌, ◌∙◌, List, ◌++◌, length, sum, take, drop, ap, sym, subst, arith, rules}
+use Rattle.std.proofs.Common.{ℕ, ◌≡◌, ◌+◌, ◌∙◌, List, length, sum, take, ap, sym, subst, arith, rules}
 use Rattle.std.proofs.lemmas.List.{take_at}
 use Rattle.demand_law.specs.Law.{IsLaw}
-use Rattle.demand_law.specs.Sequences.{laws_at, totals_of, IsSumOf}
+use Rattle.demand_law.specs.Sequences.{laws_at, IsSumOf}
 use Rattle.demand_law.specs.LawSums.{sum-IsSumOf}
 use Rattle.demand_law.specs.ServedLaws.{greatest_sum-laws_at_le, totals_of-laws_at_le}
 use Rattle.demand_law.proofs.Leads.{width_more, totals_more, sum_more, sum_first}
