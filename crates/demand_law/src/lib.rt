@@ -2,6 +2,9 @@
 #![tactic(auto)]
 
 mod law;
+mod named;
 mod points;
+mod sums;
 
 pub use law::{Law, LawErr, LawFault};
+pub use sums::{SumErr, convolve, lead_into, lead_sum};
