@@ -50,22 +50,28 @@ consumes_kept (Some u) (Some v) h = sym h
 
 -- the whole is a prefix of itself
 pub prefix_whole : (a b : Option (List ℕ)) (xs : List ℕ) → Appends a b xs → AppendsPrefix a b xs
-prefix_whole a b xs h = let P : List ℕ → Type 0 = Appends a b in (length xs, subst P (sym (take-length xs)) h)
+prefix_whole a b xs h =
+    let P : List ℕ → Type 0 = Appends a b in
+    record { count = length xs; appended = subst P (sym (take-length xs)) h }
 
 -- with no call nothing is appended, and that is a prefix of anything
 pub prefix_none : (a : Option (List ℕ)) (xs : List ℕ) → AppendsPrefix a a xs
-prefix_none a xs = (0, appends_none a)
+prefix_none a xs = record { count = 0; appended = appends_none a }
 
 -- a prefix of xs is one of xs with more behind
 pub prefix_longer : (a b : Option (List ℕ)) (xs ys : List ℕ) → AppendsPrefix a b xs → AppendsPrefix a b (xs ++ ys)
-prefix_longer a b xs ys (n, h) =
+prefix_longer a b xs ys p =
     let P : List ℕ → Type 0 = Appends a b in
-    let whole : xs ++ ys ≡ take n xs ++ (drop n xs ++ ys) = ap (λ t. t ++ ys) (sym (take-append-drop n xs)) ∙ append_assoc (take n xs) (drop n xs) ys in
-    let front : take (length (take n xs)) (xs ++ ys) ≡ take n xs = ap (λ t. take (length (take n xs)) t) whole ∙ take-append_seam (take n xs) (drop n xs ++ ys) in
-    (length (take n xs), subst P (sym front) h)
+    let part = take p.count xs in
+    let whole : xs ++ ys ≡ part ++ (drop p.count xs ++ ys) = ap (λ t. t ++ ys) (sym (take-append-drop p.count xs)) ∙ append_assoc part (drop p.count xs) ys in
+    let front : take (length part) (xs ++ ys) ≡ part = ap (λ t. take (length part) t) whole ∙ take-append_seam part (drop p.count xs ++ ys) in
+    record { count = length part; appended = subst P (sym front) p.appended }
 
 -- all of xs was appended, and then a prefix of ys
 pub prefix_more : (a b c : Option (List ℕ)) (xs ys : List ℕ) → Appends a b xs → AppendsPrefix b c ys → AppendsPrefix a c (xs ++ ys)
-prefix_more a b c xs ys p (n, q) =
+prefix_more a b c xs ys p q =
     let P : List ℕ → Type 0 = Appends a c in
-    (length xs + n, subst P (sym (take-append-add xs ys n)) (appends_more a b c xs (take n ys) p q))
+    record { count = length xs + q.count; appended = subst P (sym (take-append-add xs ys q.count)) (appends_more a b c xs (take q.count ys) p q.appended) }
+
+-- what joins the steps of whoever writes or reads in pieces
+pub ruleset known_steps = (appends_more, appends_none, appends_kept, consumes_more, consumes_none, consumes_kept, prefix_whole, prefix_none, prefix_longer, prefix_more)

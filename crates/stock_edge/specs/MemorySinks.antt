@@ -14,7 +14,7 @@ pub record SinkState : Type 0 where
   -- how many bytes it can hold
   pub room : ℕ
   -- how many writes there were
-  pub call : ℕ
+  pub calls : ℕ
   -- how many of them failed
   pub faults : ℕ
 
@@ -28,11 +28,11 @@ IsFullFor sink size = (sink.room ≤ length sink.held) × (0 < size)
 
 -- one write of a piece of this size
 pub record WriteStep (old new : SinkState) (result : Result ℕ Failed) (size : ℕ) : Type 0 where
-  pub call : new.call ≡ next_count old.call
+  pub calls : new.calls ≡ next_count old.calls
   pub most : new.most ≡ old.most
   pub fails : new.fails ≡ old.fails
   pub room : new.room ≡ old.room
-  pub failed : IsErr result ↔ (Contains old.fails new.call ⊎ IsFullFor old size)
+  pub failed : IsErr result ↔ (Contains old.fails new.calls ⊎ IsFullFor old size)
   pub count : IfOk result (λ n. n ≡ taken_count old size)
   pub faults : new.faults ≡ faults_after old.faults result
 

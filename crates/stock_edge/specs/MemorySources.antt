@@ -12,7 +12,7 @@ pub record SourceState : Type 0 where
   -- the numbers of the reads that fail, from 1
   pub fails : List ℕ
   -- how many reads there were
-  pub call : ℕ
+  pub calls : ℕ
   -- how many of them failed
   pub faults : ℕ
 
@@ -29,9 +29,9 @@ given_count left most room = min (min (length left) most) room
 
 -- one read into a buffer with this much room
 pub record ReadStep (old new : SourceState) (result : Result ℕ Failed) (room : ℕ) : Type 0 where
-  pub call : new.call ≡ next_count old.call
+  pub calls : new.calls ≡ next_count old.calls
   pub most : new.most ≡ old.most
   pub fails : new.fails ≡ old.fails
-  pub failed : IsErr result ↔ Contains old.fails new.call
+  pub failed : IsErr result ↔ Contains old.fails new.calls
   pub count : IfOk result (λ n. n ≡ given_count old.left old.most room)
   pub faults : new.faults ≡ faults_after old.faults result

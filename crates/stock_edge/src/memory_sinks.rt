@@ -14,7 +14,7 @@ pub struct MemSink {
     most: usize,
     fails: Vec<u64>,
     room: usize,
-    call: u64,
+    calls: u64,
     faults: u64,
 }
 
@@ -35,7 +35,14 @@ impl MemSink {
     /// whose numbers, from 1, stand in `fails` fail. All its memory is taken here.
     pub fn new(alloc: Global, most: usize, fails: &[u64], room: usize) -> Result<MemSink, Memory>
         requires { 0 < most }
-        ensures { IfOk result (λ sink. sink ≡ record { held = []; most = most; fails = fails.now; room = room; call = 0; faults = 0 }) }
+        ensures { IfOk result (λ sink. sink ≡ record {
+          held = [];
+          most = most;
+          fails = fails.now;
+          room = room;
+          calls = 0;
+          faults = 0;
+        }) }
     {
         let Ok(held) = Vec::with_capacity(alloc, room) else {
             return Err(Memory);
@@ -48,7 +55,7 @@ impl MemSink {
             most,
             fails,
             room,
-            call: 0,
+            calls: 0,
             faults: 0,
         })
     }
@@ -80,10 +87,10 @@ impl Sink for MemSink {
         ensures exact { WriteStep self.old self.new result (length piece.now) }
         ensures quiet { QuietWithRoom self.new }
     {
-        self.call = self.call.saturating_add(1);
+        self.calls = self.calls.saturating_add(1);
         let left = self.room - self.held.len();
         let is_full = left == 0 && !piece.is_empty();
-        if is_full || self.fails.contains(&self.call) {
+        if is_full || self.fails.contains(&self.calls) {
             self.faults = self.faults.saturating_add(1);
             return Err(Failed);
         }

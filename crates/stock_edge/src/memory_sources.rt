@@ -13,7 +13,7 @@ pub struct MemSource {
     rest: Vec<u8>,
     most: usize,
     fails: Vec<u64>,
-    call: u64,
+    calls: u64,
     faults: u64,
 }
 
@@ -23,7 +23,13 @@ impl Model for MemSource {
 
     ghost Value = { SourceState };
 
-    ghost view = { λ s. record { left = s.rest.items; most = s.most; fails = s.fails.items; call = s.call; faults = s.faults } };
+    ghost view = { λ s. record {
+      left = s.rest.items;
+      most = s.most;
+      fails = s.fails.items;
+      calls = s.calls;
+      faults = s.faults;
+    } };
 
     ghost invariant = { λ s. 0 < s.most };
 }
@@ -33,7 +39,13 @@ impl MemSource {
     /// stand in `fails` fail.
     pub fn new(alloc: Global, bytes: &[u8], most: usize, fails: &[u64]) -> Result<MemSource, Memory>
         requires { 0 < most }
-        ensures { IfOk result (λ source. source ≡ record { left = bytes.now; most = most; fails = fails.now; call = 0; faults = 0 }) }
+        ensures { IfOk result (λ source. source ≡ record {
+          left = bytes.now;
+          most = most;
+          fails = fails.now;
+          calls = 0;
+          faults = 0;
+        }) }
     {
         let Ok(rest) = bytes.to_vec(alloc) else {
             return Err(Memory);
@@ -45,7 +57,7 @@ impl MemSource {
             rest,
             most,
             fails,
-            call: 0,
+            calls: 0,
             faults: 0,
         })
     }
@@ -67,8 +79,8 @@ impl Source for MemSource {
         ensures cause { HasCause self.old.faults self.new.faults result }
         ensures exact { ReadStep self.old self.new result (length buf.old) }
     {
-        self.call = self.call.saturating_add(1);
-        if self.fails.contains(&self.call) {
+        self.calls = self.calls.saturating_add(1);
+        if self.fails.contains(&self.calls) {
             self.faults = self.faults.saturating_add(1);
             return Err(Failed);
         }
