@@ -82,7 +82,7 @@ fn goes_on_after_a_faulty_write(rt: HostRuntime) -> Result<(), Fail> {
     Ok(())
 }
 
-// A stream whose first calls are interrupted, and whose call after the next ones fails.
+// A stream whose first calls are interrupted, whose next calls pass a byte, and which then fails.
 #[derive(Drop)]
 struct Unsteady {
     interrupted: u8,
