@@ -1,11 +1,11 @@
 // Reduced fractions.
-ghost use Rattle.std.specs.Prelude.{◌≡◌, ℕ, ◌*◌, ◌/◌, ◌<◌, ◌≤◌, ◌++◌, OnOk, OnErr, pos, ◌*ℤ◌, ◌^◌};
+ghost use Rattle.std.specs.Prelude.{◌≡◌, ◌<◌, ◌≤◌, ◌^◌, ◌++◌, OnOk, OnErr, pos, ◌*ℤ◌};
 ghost use Rattle.std.specs.Int.RustNames.{unsigned_abs};
 ghost use lib.IntN.{neg_ℤ};
-ghost use Rattle.std.specs.Int.{IsGcd, ◌∣◌};
-ghost use Rattle.fraction128.specs.Reduced.{IsReduced, gcd_of, lowest_num, lowest_den};
+ghost use Rattle.fraction128.specs.Reduced.{IsReduced, lowest_num, lowest_den};
 ghost use Rattle.fraction128.specs.Printed.{frac_text};
 
+use crate::divisor::lowest;
 use crate::text::{Memory, Text};
 
 /// A fraction in lowest terms.
@@ -14,34 +14,6 @@ pub struct Frac {
     pub num: i128,
     pub den: u128,
     ghost reduced: { IsReduced num den },
-}
-
-/// The greatest common divisor; that of 0 and 0 is 0.
-pub fn gcd(a: u128, b: u128) -> u128
-    ensures { IsGcd a b result }
-{
-    let mut x = a;
-    let mut y = b;
-    while y != 0 {
-        let rest = x % y;
-        x = y;
-        y = rest;
-    }
-    x
-}
-
-// The quotient by the greatest common divisor, of both.
-fn lowest(size: u128, den: u128) -> (u128, u128)
-    requires { 0 < den }
-    ensures top { result.0 ≡ size / gcd_of size den }
-    ensures bottom { result.1 ≡ den / gcd_of size den }
-    ensures same { result.0 * den ≡ size * result.1 }
-    ensures no_larger { result.0 ≤ size }
-    ensures positive { 0 < result.1 }
-    ensures lowest { (d : ℕ) → d ∣ result.0 → d ∣ result.1 → d ≡ 1 }
-{
-    let common = gcd(size, den);
-    (size / common, den / common)
 }
 
 // The number below 0 of this size.
