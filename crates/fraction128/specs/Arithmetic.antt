@@ -36,18 +36,22 @@ common_den x y = x.den * (y.den / gcd_of x.den y.den)
 abbrev pub raised_num : Frac → Frac → ℤ
 raised_num x y = x.num *ℤ pos (y.den / gcd_of x.den y.den)
 
--- both numerators over the least common denominator, their total, and its denominator in lowest terms
-pub record TotalFits (first second total : ℤ) (den : ℕ) : Type 0 where
-  pub first_num : FitsSigned w128 first
-  pub second_num : FitsSigned w128 second
-  pub total_num : FitsSigned w128 total
-  pub reduced_den : lowest_den total den < 2 ^ 128
+-- both numerators over the least common denominator
+pub record NumsFit (x y : Frac) : Type 0 where
+  pub first : FitsSigned w128 (raised_num x y)
+  pub second : FitsSigned w128 (raised_num y x)
+
+-- both numerators, their total, and its denominator in lowest terms
+pub record TotalFits (x y : Frac) (total : ℤ) : Type 0 where
+  pub nums : NumsFit x y
+  pub num : FitsSigned w128 total
+  pub den : lowest_den total (common_den x y) < 2 ^ 128
 
 abbrev pub SumFits : Frac → Frac → Type 0
-SumFits x y = TotalFits (raised_num x y) (raised_num y x) (raised_num x y +ℤ raised_num y x) (common_den x y)
+SumFits x y = TotalFits x y (raised_num x y +ℤ raised_num y x)
 
 abbrev pub DifferenceFits : Frac → Frac → Type 0
-DifferenceFits x y = TotalFits (raised_num x y) (raised_num y x) (raised_num x y -ℤ raised_num y x) (common_den x y)
+DifferenceFits x y = TotalFits x y (raised_num x y -ℤ raised_num y x)
 
 -- num/den in lowest terms
 pub record QuotientFits (num : ℤ) (den : ℕ) : Type 0 where
@@ -57,6 +61,7 @@ pub record QuotientFits (num : ℤ) (den : ℕ) : Type 0 where
 abbrev pub ProductFits : Frac → Frac → Type 0
 ProductFits x y = QuotientFits (x.num *ℤ y.num) (x.den * y.den)
 
+-- both cross products
 pub record CrossFits (x y : Frac) : Type 0 where
   pub first : FitsSigned w128 (cross x y)
   pub second : FitsSigned w128 (cross y x)

@@ -1,12 +1,12 @@
 // Exact sums, products and comparisons.
-ghost use Rattle.std.specs.Prelude.{◌≡◌, ◌↔◌, ◌*◌, ◌/◌, ◌^◌, ◌<◌, pos, ◌*ℤ◌, IsSome, IfSome, FitsSigned, unsigned_abs};
+ghost use Rattle.std.specs.Prelude.{◌≡◌, ◌↔◌, ◌*◌, ◌^◌, ◌<◌, pos, ◌*ℤ◌, IsSome, IfSome, FitsSigned, unsigned_abs};
 ghost use Rattle.std.specs.Int.{w128};
 ghost use Rattle.std.specs.Option.{SomeIff};
 ghost use Rattle.std.specs.Ordering.{int_cmp};
 ghost use Rattle.fraction128.specs.Divisors.{AreCoprime};
-ghost use Rattle.fraction128.specs.Reduced.{gcd_of, lowest_den};
-ghost use Rattle.fraction128.specs.Split.{den_with, least_common};
-ghost use Rattle.fraction128.specs.Arithmetic.{cross, IsQuotient, IsSum, IsDifference, IsProduct, SumFits, DifferenceFits, ProductFits, CrossFits};
+ghost use Rattle.fraction128.specs.Reduced.{lowest_den};
+ghost use Rattle.fraction128.specs.Split.{IsSplit, IsAligned, den_with, least_common};
+ghost use Rattle.fraction128.specs.Arithmetic.{cross, IsQuotient, IsSum, IsDifference, IsProduct, NumsFit, SumFits, DifferenceFits, ProductFits, CrossFits};
 
 use std::cmp::Ordering;
 
@@ -14,6 +14,7 @@ use crate::divisor::gcd;
 use crate::frac::Frac;
 
 // Two denominators, `first * shared` and `second * shared`, without what they share.
+#[derive(Clone, Copy)]
 struct Denominators {
     first: u128,
     second: u128,
@@ -21,11 +22,7 @@ struct Denominators {
 }
 
 fn split(x: &Frac, y: &Frac) -> Denominators
-    ensures first { result.first ≡ x.now.den / gcd_of y.now.den x.now.den }
-    ensures second { result.second ≡ y.now.den / gcd_of x.now.den y.now.den }
-    ensures first_den { result.first * result.shared ≡ x.now.den }
-    ensures second_den { result.second * result.shared ≡ y.now.den }
-    ensures apart { AreCoprime result.first result.second }
+    ensures { IsSplit x.now y.now result }
 {
     let shared = gcd(x.den, y.den);
     Denominators {
@@ -45,6 +42,28 @@ fn checked_scale(num: i128, factor: u128) -> Option<i128>
     } else {
         0i128.checked_add_unsigned(size)
     }
+}
+
+// Two numerators over the least common denominator.
+#[derive(Clone, Copy)]
+struct Aligned {
+    first: i128,
+    second: i128,
+    parts: Denominators,
+}
+
+fn align(x: &Frac, y: &Frac) -> Option<Aligned>
+    ensures fits { IsSome result ↔ NumsFit x.now y.now }
+    ensures value { IfSome result (IsAligned x.now y.now) }
+{
+    let parts = split(x, y);
+    let first = checked_scale(x.num, parts.second)?;
+    let second = checked_scale(y.num, parts.first)?;
+    Some(Aligned {
+        first,
+        second,
+        parts,
+    })
 }
 
 // The denominator whose shared part is `shared`, where that fits.
@@ -69,4 +88,49 @@ fn over_common(total: i128, parts: &Denominators) -> Option<Frac>
     let part = Frac::new(total, parts.shared);
     let den = checked_den(part.den, parts)?;
     Some(Frac { num: part.num, den })
+}
+
+impl Frac {
+    /// The exact sum. With a/b and c/e for the two and g = gcd(b, e), it is `None` exactly where
+    /// a·(e/g), c·(b/g) or their sum leaves i128, or the sum's denominator in lowest terms leaves u128.
+    pub fn try_add(&self, other: &Frac) -> Option<Frac>
+        ensures fits { IsSome result ↔ SumFits self.now other.now }
+        ensures value { IfSome result (IsSum self.now other.now) }
+    {
+        let aligned = align(self, other)?;
+        let total = aligned.first.checked_add(aligned.second)?;
+        over_common(total, &aligned.parts)
+    }
+
+    /// The exact difference, `None` as in [`Frac::try_add`] with the difference in the place of the sum.
+    pub fn try_sub(&self, other: &Frac) -> Option<Frac>
+        ensures fits { IsSome result ↔ DifferenceFits self.now other.now }
+        ensures value { IfSome result (IsDifference self.now other.now) }
+    {
+        let aligned = align(self, other)?;
+        let total = aligned.first.checked_sub(aligned.second)?;
+        over_common(total, &aligned.parts)
+    }
+
+    /// The exact product, `None` exactly where it leaves i128 over u128 in lowest terms.
+    pub fn try_mul(&self, other: &Frac) -> Option<Frac>
+        ensures fits { IsSome result ↔ ProductFits self.now other.now }
+        ensures value { IfSome result (IsProduct self.now other.now) }
+    {
+        let first = Frac::new(self.num, other.den);
+        let second = Frac::new(other.num, self.den);
+        let num = first.num.checked_mul(second.num)?;
+        let den = first.den.checked_mul(second.den)?;
+        Some(Frac { num, den })
+    }
+
+    /// The order of the two values. With a/b and c/e for them, it is `None` exactly where a·e or c·b leaves i128.
+    pub fn try_cmp(&self, other: &Frac) -> Option<Ordering>
+        ensures fits { IsSome result ↔ CrossFits self.now other.now }
+        ensures value { IfSome result (λ order. order ≡ int_cmp (cross self.now other.now) (cross other.now self.now)) }
+    {
+        let first = checked_scale(self.num, other.den)?;
+        let second = checked_scale(other.num, self.den)?;
+        Some(first.cmp(&second))
+    }
 }

@@ -3,23 +3,17 @@ use Rattle.std.proofs.Math.Nat.{div-mul_cancel}
 use Rattle.fraction128.specs.Lowest.{gcd_is, gcd_of-swap, no_common}
 use Rattle.fraction128.proofs.arithmetic.split.Goals as goal
 
-pub returns-clause-first : goal.returns-clause-first
-returns-clause-first c =
+pub returns : goal.returns
+returns c =
     let x = c.args.x.now in
     let y = c.args.y.now in
-    ap (λ n. x.den / n) (gcd_is x.den y.den _ y.reduced.positive c.gcd-shared.ensures ∙ gcd_of-swap x.den y.den _ x.reduced.positive y.reduced.positive c.gcd-shared.ensures)
-
-pub returns-clause-second : goal.returns-clause-second
-returns-clause-second c =
-    let x = c.args.x.now in
-    let y = c.args.y.now in
-    ap (λ n. y.den / n) (gcd_is x.den y.den _ y.reduced.positive c.gcd-shared.ensures)
-
-pub returns-clause-first_den : goal.returns-clause-first_den
-returns-clause-first_den c = div-mul_cancel c.gcd-shared.result c.gcd-shared.ensures.0
-
-pub returns-clause-second_den : goal.returns-clause-second_den
-returns-clause-second_den c = div-mul_cancel c.gcd-shared.result c.gcd-shared.ensures.1
-
-pub returns-clause-apart : goal.returns-clause-apart
-returns-clause-apart c = no_common c.args.x.now.den c.args.y.now.den c.gcd-shared.result c.args.y.now.reduced.positive c.gcd-shared.ensures
+    let shared = c.gcd-shared.result in
+    let greatest = c.gcd-shared.ensures in
+    let is_gcd_of = gcd_is x.den y.den shared y.reduced.positive greatest in
+    record {
+      first = ap (λ n. x.den / n) (is_gcd_of ∙ gcd_of-swap x.den y.den shared x.reduced.positive y.reduced.positive greatest);
+      second = ap (λ n. y.den / n) is_gcd_of;
+      first_den = div-mul_cancel shared greatest.0;
+      second_den = div-mul_cancel shared greatest.1;
+      apart = no_common x.den y.den shared y.reduced.positive greatest
+    }
