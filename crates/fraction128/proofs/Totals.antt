@@ -4,33 +4,11 @@ use Rattle.std.specs.Prelude.{unsigned_abs}
 use Rattle.std.specs.Int.{◌∣◌}
 use Rattle.std.proofs.Math.Nat.{mul_comm, mul-pos, dvd_trans, dvd-mul_left, dvd-mul_right}
 use Rattle.std.proofs.lemmas.Int.{ints, unsigned_abs-mul}
-use borrow.Author.Differences.{up, down, neg_is, sum_is_lem, product_is, same_out}
 use lib.IntN.{neg_ℤ}
 use Rattle.fraction128.specs.Divisors.{AreCoprime, AreCoprime-swap, AreCoprime-dvd_right, AreCoprime-mul, dvd_of_coprime, dvd_abs-add}
 use Rattle.fraction128.specs.Reduced.{IsReduced, lowest_den}
-use Rattle.fraction128.specs.Lowest.{abs_cross, cross_in, cross_out, lowest_unique}
-
--- ---- products with a factor above 0
-
-mul-pos_pos : (z : ℤ) (m n : ℕ) → z *ℤ pos m *ℤ pos n ≡ z *ℤ pos (m * n)
-mul-pos_pos z m n =
-    let e = product_is z (pos m) in
-    omega (arith, ints, ap (λ k. k * n) e.0, ap (λ k. k * n) e.1)
-
-add-mul_pos : (x y : ℤ) (n : ℕ) → (x +ℤ y) *ℤ pos n ≡ (x *ℤ pos n) +ℤ (y *ℤ pos n)
-add-mul_pos x y n = omega (arith, ints, ap (λ k. k * n) (sum_is_lem x y))
-
-neg-mul_pos : (x : ℤ) (n : ℕ) → neg_ℤ x *ℤ pos n ≡ neg_ℤ (x *ℤ pos n)
-neg-mul_pos x n =
-    let e = neg_is x in
-    omega (arith, ints, ap (λ k. k * n) e.0, ap (λ k. k * n) e.1)
-
-abs-neg : (x : ℤ) → unsigned_abs (neg_ℤ x) ≡ unsigned_abs x
-abs-neg x = omega (arith, ints)
-
-cross_scale : (n t : ℤ) (d den s : ℕ) → n *ℤ pos den ≡ t *ℤ pos d → n *ℤ pos (den * s) ≡ t *ℤ pos s *ℤ pos d
-cross_scale n t d den s h =
-    sym (mul-pos_pos n den s) ∙ ap (λ z. z *ℤ pos s) h ∙ mul-pos_pos t d s ∙ ap (λ k. t *ℤ pos k) (mul_comm d s) ∙ sym (mul-pos_pos t s d)
+use Rattle.fraction128.specs.Lowest.{num_dvd, lowest_unique}
+use Rattle.fraction128.proofs.Scaled.{mul-pos_pos, add-mul_pos, neg-mul_pos, abs-neg, cross_scale}
 
 -- ---- what the total shares with the denominators
 
@@ -68,11 +46,8 @@ difference_apart a c p q apart_a apart_c apart =
 -- n/d is t/s in lowest terms, and t shares nothing with p and q
 pub over_reduced : (t n : ℤ) (p q s d : ℕ) → 0 < p → 0 < q → AreCoprime (unsigned_abs t) (p * q) → IsReduced n d → n *ℤ pos s ≡ t *ℤ pos d → IsReduced n (d * p * q)
 over_reduced t n p q s d some_p some_q apart reduced h =
-    let P : ℕ → Type 0 = λ k. unsigned_abs n ∣ k in
     let size : ℕ = unsigned_abs n in
-    let in_scaled : size ∣ d * unsigned_abs t = subst P (abs_cross n t s d h ∙ mul_comm (unsigned_abs t) d) (dvd-mul_right size s) in
-    let in_total : size ∣ unsigned_abs t = dvd_of_coprime size d (unsigned_abs t) reduced.lowest in_scaled in
-    let apart_parts : AreCoprime (p * q) size = AreCoprime-dvd_right (p * q) (unsigned_abs t) size in_total (AreCoprime-swap (unsigned_abs t) (p * q) apart) in
+    let apart_parts : AreCoprime (p * q) size = AreCoprime-dvd_right (p * q) (unsigned_abs t) size (num_dvd n t d s reduced h) (AreCoprime-swap (unsigned_abs t) (p * q) apart) in
     let whole : AreCoprime (d * (p * q)) size = AreCoprime-mul d (p * q) size (AreCoprime-swap size d reduced.lowest) apart_parts in
     let regroup : d * (p * q) ≡ d * p * q = omega arith in
     let Q : ℕ → Type 0 = λ k. AreCoprime size k in

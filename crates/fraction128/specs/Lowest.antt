@@ -2,7 +2,7 @@
 use Rattle.std.proofs.Common.{zero, suc, ◌+◌, ◌%◌, Bool, true, false, cond, ◌&&◌, nat_eq, refl, ◌⊎◌, inl, inr, ◌≡◌, ℕ, ◌*◌, ◌<◌, ◌≤◌, ◌/◌, arith, sym, ◌∙◌, ap, subst, ℤ, pos, negsuc, ◌*ℤ◌}
 use Rattle.std.specs.Prelude.{unsigned_abs}
 use Rattle.std.specs.Int.{IsGcd, ◌∣◌}
-use Rattle.std.proofs.Math.Nat.{div-mul_cancel, mul-dvd-mul_right, eq-one_of_dvd-one, dvd_of_mul-dvd-mul_right, pos_of_dvd_of_pos, dvd_antisymm, dvd-mul_left, dvd-mul_right, eq_of_mul-eq-mul_right, mod-lt, eq-zero-or-pos}
+use Rattle.std.proofs.Math.Nat.{mul_comm, div-mul_cancel, mul-dvd-mul_right, eq-one_of_dvd-one, dvd_of_mul-dvd-mul_right, pos_of_dvd_of_pos, dvd_antisymm, dvd-mul_left, dvd-mul_right, eq_of_mul-eq-mul_right, mod-lt, eq-zero-or-pos}
 use Rattle.std.proofs.lemmas.Nat.Gcd.{le_from_IsGcd, le_of_dvd, dvd_of_mod-eq-zero, mod-eq-zero_of_dvd, same_from_IsGcd, IsGcd-from_mod, IsGcd-from_zero, IsGcd-swap}
 use Rattle.std.proofs.lemmas.Bool.{cases_lt}
 use Rattle.std.proofs.lemmas.Int.{ints, unsigned_abs-mul}
@@ -113,12 +113,18 @@ cross_trans n m k d e f some h j =
 
 -- ---- lowest terms
 
--- the denominators of equal fractions in lowest terms divide each other
-den_dvd : (n k : ℤ) (d e : ℕ) → IsReduced n d → n *ℤ pos e ≡ k *ℤ pos d → d ∣ e
+-- a fraction in lowest terms divides each fraction that equals it, above and below
+pub den_dvd : (n k : ℤ) (d e : ℕ) → IsReduced n d → n *ℤ pos e ≡ k *ℤ pos d → d ∣ e
 den_dvd n k d e reduced h =
     let P : ℕ → Type 0 = λ x. d ∣ x in
     let apart = AreCoprime-swap (unsigned_abs n) d reduced.lowest in
     dvd_of_coprime d (unsigned_abs n) e apart (subst P (sym (abs_cross n k e d h)) (dvd-mul_left d (unsigned_abs k)))
+
+pub num_dvd : (n k : ℤ) (d e : ℕ) → IsReduced n d → n *ℤ pos e ≡ k *ℤ pos d → unsigned_abs n ∣ unsigned_abs k
+num_dvd n k d e reduced h =
+    let P : ℕ → Type 0 = λ x. unsigned_abs n ∣ x in
+    dvd_of_coprime (unsigned_abs n) d (unsigned_abs k) reduced.lowest
+    (subst P (abs_cross n k e d h ∙ mul_comm (unsigned_abs k) d) (dvd-mul_right (unsigned_abs n) e))
 
 -- equal fractions in lowest terms have one numerator and one denominator
 pub IsReduced-unique : (n k : ℤ) (d e : ℕ) → IsReduced n d → IsReduced k e → n *ℤ pos e ≡ k *ℤ pos d → (n ≡ k) × (d ≡ e)
