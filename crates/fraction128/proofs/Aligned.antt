@@ -48,8 +48,8 @@ least_common_is x y p split =
 
 -- the checked sum and the checked difference
 pub sum_is : (x y : Frac) (a : Aligned) (total : ℤ) → IsAligned x y a → NumsFit x y →
-  FitsSigned w128 (to_z w128 (of_z w128 a.first) +ℤ to_z w128 (of_z w128 a.second)) × (total ≡ to_z w128 (of_z w128 a.first) +ℤ to_z w128 (of_z w128 a.second)) →
-  FitsSigned w128 total × (total ≡ raised_num x y +ℤ raised_num y x)
+    FitsSigned w128 (to_z w128 (of_z w128 a.first) +ℤ to_z w128 (of_z w128 a.second)) × (total ≡ to_z w128 (of_z w128 a.first) +ℤ to_z w128 (of_z w128 a.second)) →
+    FitsSigned w128 total × (total ≡ raised_num x y +ℤ raised_num y x)
 sum_is x y a total aligned nums h =
     let Fits : ℤ → Type 0 = λ z. FitsSigned w128 z in
     let first : FitsSigned w128 a.first = subst Fits (sym aligned.first) nums.first in
@@ -58,8 +58,8 @@ sum_is x y a total aligned nums h =
     (subst Fits (sym h.1) h.0, e ∙ ap (λ z. z +ℤ a.second) aligned.first ∙ ap (λ z. raised_num x y +ℤ z) aligned.second)
 
 pub difference_is : (x y : Frac) (a : Aligned) (total : ℤ) → IsAligned x y a → NumsFit x y →
-  FitsSigned w128 (to_z w128 (of_z w128 a.first) -ℤ to_z w128 (of_z w128 a.second)) × (total ≡ to_z w128 (of_z w128 a.first) -ℤ to_z w128 (of_z w128 a.second)) →
-  FitsSigned w128 total × (total ≡ raised_num x y -ℤ raised_num y x)
+    FitsSigned w128 (to_z w128 (of_z w128 a.first) -ℤ to_z w128 (of_z w128 a.second)) × (total ≡ to_z w128 (of_z w128 a.first) -ℤ to_z w128 (of_z w128 a.second)) →
+    FitsSigned w128 total × (total ≡ raised_num x y -ℤ raised_num y x)
 difference_is x y a total aligned nums h =
     let Fits : ℤ → Type 0 = λ z. FitsSigned w128 z in
     let first : FitsSigned w128 a.first = subst Fits (sym aligned.first) nums.first in
@@ -76,15 +76,16 @@ from_bits P total sum is h = subst P (to_z-of_z w128 total is.0 ∙ is.1) h
 
 -- where both numerators and the total fit, only the denominator is left to fit
 pub total_fits : (x y : Frac) (a : Aligned) (total sum : ℤ) (Answered : Type 0) → IsAligned x y a → NumsFit x y → FitsSigned w128 total × (total ≡ sum) →
-  (Answered → lowest_den (to_z w128 (of_z w128 total)) (least_common a.parts) < 2 ^ 128) × (lowest_den (to_z w128 (of_z w128 total)) (least_common a.parts) < 2 ^ 128 → Answered) →
-  (Answered → TotalFits x y sum) × (TotalFits x y sum → Answered)
+    (Answered → lowest_den (to_z w128 (of_z w128 total)) (least_common a.parts) < 2 ^ 128) × (lowest_den (to_z w128 (of_z w128 total)) (least_common a.parts) < 2 ^ 128 → Answered) →
+    (Answered → TotalFits x y sum) × (TotalFits x y sum → Answered)
 total_fits x y a total sum Answered aligned nums is fits =
     let Fits : ℤ → Type 0 = λ z. FitsSigned w128 z in
     let Small : ℤ → Type 0 = λ z. lowest_den z (least_common a.parts) < 2 ^ 128 in
     let SmallOver : ℕ → Type 0 = λ n. lowest_den sum n < 2 ^ 128 in
-    let common = least_common_is x y a.parts aligned.split in
-    (λ answered. record { nums = nums; num = subst Fits is.1 is.0; den = subst SmallOver common (from_bits Small total sum is (fits.0 answered)) },
-     λ all. fits.1 (at_bits Small total sum is (subst SmallOver (sym common) all.den)))
+    let common = least_common_is x y a.parts aligned.split in (
+      λ answered. record { nums = nums; num = subst Fits is.1 is.0; den = subst SmallOver common (from_bits Small total sum is (fits.0 answered)) },
+      λ all. fits.1 (at_bits Small total sum is (subst SmallOver (sym common) all.den)),
+    )
 
 -- ---- back to the product of both denominators
 

@@ -1,5 +1,5 @@
 -- The product of two fractions: each numerator is reduced against the other denominator first.
-use Rattle.std.proofs.Common.{◌≡◌, ℕ, ◌*◌, ◌<◌, ℤ, pos, ◌*ℤ◌, to_z, of_z, sym, ap, subst, ◌∙◌}
+use Rattle.std.proofs.Common.{◌≡◌, ℕ, ◌*◌, ℤ, pos, ◌*ℤ◌, to_z, of_z, sym, ap, subst, ◌∙◌}
 use Rattle.std.specs.Prelude.{FitsSigned, unsigned_abs}
 use Rattle.std.specs.Int.{w128}
 use Rattle.std.proofs.Math.Nat.{mul_comm, mul-pos}
@@ -43,7 +43,7 @@ multiplied_reduced x y first second h k =
     let apart = product_apart (unsigned_abs first.num) (unsigned_abs second.num) first.den second.den first.reduced.lowest (parts_apart x first second y.den y.num h k) (parts_apart y second first x.den x.num k h) second.reduced.lowest in
     record {
       positive = mul-pos first.reduced.positive second.reduced.positive;
-      lowest = subst P (sym (unsigned_abs-mul first.num second.num)) apart
+      lowest = subst P (sym (unsigned_abs-mul first.num second.num)) apart;
     }
 
 multiplied_value : (x y first second : Frac) → first.num *ℤ pos y.den ≡ x.num *ℤ pos first.den → second.num *ℤ pos x.den ≡ y.num *ℤ pos second.den → first.num *ℤ second.num *ℤ pos (x.den * y.den) ≡ x.num *ℤ y.num *ℤ pos (first.den * second.den)

@@ -12,9 +12,16 @@ mul_assoc a b c =
     let ab = product_is a b in
     let bc = product_is b c in
     omega (
-        arith, ints, ap (λ n. n * up c) ab.0, ap (λ n. n * down c) ab.0, ap (λ n. n * up c) ab.1,
-        ap (λ n. n * down c) ab.1, ap (λ n. up a * n) bc.0, ap (λ n. down a * n) bc.0, ap (λ n. up a * n) bc.1,
-        ap (λ n. down a * n) bc.1
+      arith,
+      ints,
+      ap (λ n. n * up c) ab.0,
+      ap (λ n. n * down c) ab.0,
+      ap (λ n. n * up c) ab.1,
+      ap (λ n. n * down c) ab.1,
+      ap (λ n. up a * n) bc.0,
+      ap (λ n. down a * n) bc.0,
+      ap (λ n. up a * n) bc.1,
+      ap (λ n. down a * n) bc.1,
     )
 
 pub mul-pos_pos : (z : ℤ) (m n : ℕ) → z *ℤ pos m *ℤ pos n ≡ z *ℤ pos (m * n)

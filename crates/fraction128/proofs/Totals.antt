@@ -1,8 +1,8 @@
 -- Sums and differences over the least common denominator: b = p·s and e = q·s, where p and q share no divisor.
-use Rattle.std.proofs.Common.{◌≡◌, ℕ, ◌+◌, ◌*◌, ◌<◌, ◌≤◌, ◌^◌, ℤ, pos, ◌+ℤ◌, ◌-ℤ◌, ◌*ℤ◌, arith, sym, ap, subst, ◌∙◌, refl}
+use Rattle.std.proofs.Common.{◌≡◌, ℕ, ◌*◌, ◌<◌, ℤ, pos, ◌+ℤ◌, ◌-ℤ◌, ◌*ℤ◌, arith, sym, ap, subst, ◌∙◌}
 use Rattle.std.specs.Prelude.{unsigned_abs}
 use Rattle.std.specs.Int.{◌∣◌}
-use Rattle.std.proofs.Math.Nat.{mul_comm, mul-pos, dvd_trans, dvd-mul_left, dvd-mul_right}
+use Rattle.std.proofs.Math.Nat.{mul_comm, mul-pos, dvd_trans, dvd-mul_left}
 use Rattle.std.proofs.lemmas.Int.{ints, unsigned_abs-mul}
 use lib.IntN.{neg_ℤ}
 use Rattle.fraction128.specs.Divisors.{AreCoprime, AreCoprime-swap, AreCoprime-dvd_right, AreCoprime-mul, dvd_of_coprime, dvd_abs-add}
@@ -53,7 +53,7 @@ over_reduced t n p q s d some_p some_q apart reduced h =
     let Q : ℕ → Type 0 = λ k. AreCoprime size k in
     record {
       positive = mul-pos (mul-pos reduced.positive some_p) some_q;
-      lowest = subst Q regroup (AreCoprime-swap (d * (p * q)) size whole)
+      lowest = subst Q regroup (AreCoprime-swap (d * (p * q)) size whole);
     }
 
 pub over_value : (t n : ℤ) (p q s d : ℕ) → n *ℤ pos s ≡ t *ℤ pos d → n *ℤ pos (s * p * q) ≡ t *ℤ pos (d * p * q)

@@ -1,6 +1,7 @@
 -- What fractions add up to, multiply to and compare as, and when that fits.
 use Rattle.std.specs.Prelude.{◌≡◌, ℕ, ◌*◌, ◌/◌, ◌^◌, ◌<◌, ℤ, pos, ◌+ℤ◌, ◌-ℤ◌, ◌*ℤ◌, FitsSigned}
 use Rattle.std.specs.Int.{w128}
+use Rattle.fraction128.specs.Lowest.{lowest_unique}
 use Rattle.fraction128.specs.Reduced.{gcd_of, lowest_num, lowest_den}
 use Rattle.fraction128.specs.declared.frac.Frac.{Frac}
 
@@ -65,3 +66,7 @@ ProductFits x y = QuotientFits (x.num *ℤ y.num) (x.den * y.den)
 pub record CrossFits (x y : Frac) : Type 0 where
   pub first : FitsSigned w128 (cross x y)
   pub second : FitsSigned w128 (cross y x)
+
+-- a fraction that is num/den is num/den in lowest terms
+pub lowest-from_IsQuotient : (num : ℤ) (den : ℕ) (r : Frac) → 0 < den → IsQuotient num den r → (r.num ≡ lowest_num num den) × (r.den ≡ lowest_den num den)
+lowest-from_IsQuotient num den r positive is = lowest_unique r.num num r.den den positive r.reduced is

@@ -1,5 +1,5 @@
 -- Common divisors, and numbers that have none but 1.
-use Rattle.std.specs.Prelude.{◌≡◌, ℕ, zero, suc, ◌+◌, ◌*◌, ◌/◌, ◌%◌, ◌-◌, ◌<◌, ◌≤◌, ◌⊎◌, ℤ, pos, negsuc, ◌+ℤ◌, ◌*ℤ◌, unsigned_abs}
+use Rattle.std.specs.Prelude.{◌≡◌, ℕ, zero, suc, ◌+◌, ◌*◌, ◌/◌, ◌%◌, ◌-◌, ◌≤◌, ℤ, pos, negsuc, ◌+ℤ◌, unsigned_abs}
 use Rattle.std.specs.Int.{IsGcd, ◌∣◌}
 use Rattle.std.proofs.Common.{arith, sym, ap, subst, inl, inr}
 use Rattle.std.proofs.Math.Nat.{mul_comm, one-dvd, dvd-add, dvd-sub, dvd-add_iff_right, dvd-mod_iff, dvd-mul_left, dvd-mul_right_of_dvd, dvd_trans, mod-lt, div-add-mod, eq-zero-or-pos}
@@ -30,14 +30,14 @@ dvd_scaled_upto zero a b g c d le h in_a in_b =
 dvd_scaled_upto (suc most) a b g c d le h in_a in_b =
     let P : ℕ → Type 0 = λ n. d ∣ n in
     elim (eq-zero-or-pos b) [
-      inl e ↦ subst (λ (n : ℕ). d ∣ c * n) (same_from_IsGcd a b a g (IsGcd-from_zero a b e) h) in_a
-    | inr some ↦
-        let split : c * (b * (a / b)) + c * (a % b) ≡ c * a = omega (arith, ap (λ n. c * n) (div-add-mod a b)) in
-        let regroup : c * b * (a / b) ≡ c * (b * (a / b)) = omega arith in
-        let front : d ∣ c * (b * (a / b)) = subst P regroup (dvd-mul_right_of_dvd d in_b (a / b)) in
-        let in_rest : d ∣ c * (a % b) = (dvd-add_iff_right d {m = c * (b * (a / b))} {n = c * (a % b)} front).1 (subst P (sym split) in_a) in
-        let less : a % b ≤ most = omega (arith, mod-lt a some) in
-        dvd_scaled_upto most b (a % b) g c d less (IsGcd-to_mod a b g h) in_b in_rest
+      | inl e ↦ subst (λ (n : ℕ). d ∣ c * n) (same_from_IsGcd a b a g (IsGcd-from_zero a b e) h) in_a
+      | inr some ↦
+          let split : c * (b * (a / b)) + c * (a % b) ≡ c * a = omega (arith, ap (λ n. c * n) (div-add-mod a b)) in
+          let regroup : c * b * (a / b) ≡ c * (b * (a / b)) = omega arith in
+          let front : d ∣ c * (b * (a / b)) = subst P regroup (dvd-mul_right_of_dvd d in_b (a / b)) in
+          let in_rest : d ∣ c * (a % b) = (dvd-add_iff_right d {m = c * (b * (a / b))} {n = c * (a % b)} front).1 (subst P (sym split) in_a) in
+          let less : a % b ≤ most = omega (arith, mod-lt a some) in
+          dvd_scaled_upto most b (a % b) g c d less (IsGcd-to_mod a b g h) in_b in_rest
     ]
 
 -- a divisor of m·n that shares none with m divides n

@@ -1,9 +1,9 @@
 -- What follows from the greatest common divisor: fractions in lowest terms, and that each value has one such fraction.
-use Rattle.std.proofs.Common.{zero, suc, ◌+◌, ◌%◌, Bool, true, false, cond, ◌&&◌, nat_eq, refl, ◌⊎◌, inl, inr, ◌≡◌, ℕ, ◌*◌, ◌<◌, ◌≤◌, ◌/◌, arith, sym, ◌∙◌, ap, subst, ℤ, pos, negsuc, ◌*ℤ◌}
+use Rattle.std.proofs.Common.{zero, suc, ◌%◌, Bool, true, false, cond, ◌&&◌, nat_eq, refl, ◌⊎◌, inl, inr, ◌≡◌, ℕ, ◌*◌, ◌<◌, ◌≤◌, ◌/◌, arith, sym, ◌∙◌, ap, subst, ℤ, pos, negsuc, ◌*ℤ◌}
 use Rattle.std.specs.Prelude.{unsigned_abs}
 use Rattle.std.specs.Int.{IsGcd, ◌∣◌}
 use Rattle.std.proofs.Math.Nat.{mul_comm, div-mul_cancel, mul-dvd-mul_right, eq-one_of_dvd-one, dvd_of_mul-dvd-mul_right, pos_of_dvd_of_pos, dvd_antisymm, dvd-mul_left, dvd-mul_right, eq_of_mul-eq-mul_right, mod-lt, eq-zero-or-pos}
-use Rattle.std.proofs.lemmas.Nat.Gcd.{le_from_IsGcd, le_of_dvd, dvd_of_mod-eq-zero, mod-eq-zero_of_dvd, same_from_IsGcd, IsGcd-from_mod, IsGcd-from_zero, IsGcd-swap}
+use Rattle.std.proofs.lemmas.Nat.Gcd.{le_from_IsGcd, le_of_dvd, dvd_of_mod-eq-zero, mod-eq-zero_of_dvd, IsGcd-from_mod, IsGcd-from_zero, IsGcd-swap}
 use Rattle.std.proofs.lemmas.Bool.{cases_lt}
 use Rattle.std.proofs.lemmas.Int.{ints, unsigned_abs-mul}
 use borrow.Author.Differences.{up, down, neg_is, product_is, same_out}
@@ -76,11 +76,11 @@ some_gcd : (most a b : ℕ) → b ≤ most → (g : ℕ) × IsGcd a b g
 some_gcd zero a b le = (a, IsGcd-from_zero a b (omega arith))
 some_gcd (suc most) a b le =
     elim (eq-zero-or-pos b) [
-      inl e ↦ (a, IsGcd-from_zero a b e)
-    | inr some ↦
-        let less : a % b ≤ most = omega (arith, mod-lt a some) in
-        let found = some_gcd most b (a % b) less in
-        (found.0, IsGcd-from_mod a b found.0 found.1)
+      | inl e ↦ (a, IsGcd-from_zero a b e)
+      | inr some ↦
+          let less : a % b ≤ most = omega (arith, mod-lt a some) in
+          let found = some_gcd most b (a % b) less in
+          (found.0, IsGcd-from_mod a b found.0 found.1)
     ]
 
 pub IsGcd-gcd_of : (a b : ℕ) → 0 < b → IsGcd a b (gcd_of a b)
@@ -154,7 +154,7 @@ IsReduced-lowest num den some =
     let P : ℕ → Type 0 = λ n. AreCoprime n (den / g) in
     record {
       positive = quotient_pos (unsigned_abs num) den g some greatest;
-      lowest = subst P (sym (abs_with_sign num (unsigned_abs num / g))) (no_common (unsigned_abs num) den g some greatest)
+      lowest = subst P (sym (abs_with_sign num (unsigned_abs num / g))) (no_common (unsigned_abs num) den g some greatest);
     }
 
 -- num/den in lowest terms has the value of num/den

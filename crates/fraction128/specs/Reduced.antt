@@ -1,5 +1,5 @@
 -- Fractions in lowest terms.
-use Rattle.std.specs.Prelude.{◌≡◌, ℕ, ◌<◌, ◌/◌, ◌%◌, ◌&&◌, zero, suc, ℤ, pos, negsuc, if◌then◌else◌, ◌==◌, unsigned_abs}
+use Rattle.std.specs.Prelude.{ℕ, ◌<◌, ◌/◌, ◌%◌, ◌&&◌, zero, suc, ℤ, pos, negsuc, if◌then◌else◌, ◌==◌, unsigned_abs}
 use lib.IntN.{neg_ℤ}
 use Rattle.fraction128.specs.Divisors.{AreCoprime}
 

@@ -8,10 +8,9 @@ ghost use Rattle.fraction128.specs.Reduced.{lowest_den};
 ghost use Rattle.fraction128.specs.Split.{IsSplit, IsAligned, den_with, least_common};
 ghost use Rattle.fraction128.specs.Arithmetic.{cross, IsQuotient, IsSum, IsDifference, IsProduct, NumsFit, SumFits, DifferenceFits, ProductFits, CrossFits};
 
-use std::cmp::Ordering;
-
 use crate::divisor::gcd;
 use crate::frac::Frac;
+use std::cmp::Ordering;
 
 // Two denominators, `first * shared` and `second * shared`, without what they share.
 #[derive(Clone, Copy)]

@@ -8,12 +8,14 @@ ghost use Rattle.fraction128.specs.Printed.{frac_text};
 use crate::divisor::lowest;
 use crate::text::{Memory, Text};
 
-/// A fraction in lowest terms.
-#[derive(Clone, Copy, Debug)]
+/// A fraction in lowest terms, with a denominator above 0; zero is 0/1.
+///
+/// Each value has one such fraction, so two are equal exactly where their values are.
+#[derive(Clone, Copy, Debug, PartialEq, Eq)]
 pub struct Frac {
     pub num: i128,
     pub den: u128,
-    ghost reduced: { IsReduced num den },
+    pub ghost reduced: { IsReduced num den },
 }
 
 // The number below 0 of this size.
@@ -26,6 +28,7 @@ fn below_zero(size: u128) -> i128
 }
 
 impl Frac {
+    /// `num`/`den` in lowest terms.
     pub fn new(num: i128, den: u128) -> Frac
         requires { 0 < den }
         ensures value { (result.num *ℤ pos den) ≡ (num *ℤ pos result.den) }
@@ -47,6 +50,7 @@ impl Frac {
         }
     }
 
+    /// The whole number `num`, as `num`/1.
     pub fn whole(num: i128) -> Frac
         ensures num { result.num ≡ num }
         ensures den { result.den ≡ 1 }
@@ -56,7 +60,8 @@ impl Frac {
 }
 
 impl Frac {
-    /// Appends the fraction in decimal.
+    /// Appends `num`, or `num/den` where `den` isn't 1, in decimal.
+    /// Where memory is refused, the text is as before.
     pub fn text_into(&self, out: &mut Text) -> Result<(), Memory>
         ensures ok { OnOk result (out.new ≡ out.old ++ frac_text self.now.num self.now.den) }
         ensures err { OnErr result (out.new ≡ out.old) }

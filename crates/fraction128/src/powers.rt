@@ -30,10 +30,13 @@ fn is_product_within(factors: &[u128], limit: u128) -> bool
 {
     let mut product = 1u128;
     for factor in factors {
-        match product.checked_mul(*factor) {
-            Some(next) if next <= limit => product = next,
-            _ => return false,
+        let Some(next) = product.checked_mul(*factor) else {
+            return false;
+        };
+        if next > limit {
+            return false;
         }
+        product = next;
     }
     true
 }

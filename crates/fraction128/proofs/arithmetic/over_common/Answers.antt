@@ -22,7 +22,7 @@ over total p part fits first second shared apart h =
     record {
       reduced = over_reduced total part.num p.first p.second p.shared part.den first second apart part.reduced value;
       value = over_value total part.num p.first p.second p.shared part.den value;
-      den = over_den total part.num p.first p.second p.shared part.den first second shared apart part.reduced value
+      den = over_den total part.num p.first p.second p.shared part.den first second shared apart part.reduced value;
     }
 
 pub returns-in_err-den-clause-fits : goal.returns-in_err-den-clause-fits

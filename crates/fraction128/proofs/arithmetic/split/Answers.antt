@@ -15,5 +15,5 @@ returns c =
       second = ap (λ n. y.den / n) is_gcd_of;
       first_den = div-mul_cancel shared greatest.0;
       second_den = div-mul_cancel shared greatest.1;
-      apart = no_common x.den y.den shared y.reduced.positive greatest
+      apart = no_common x.den y.den shared y.reduced.positive greatest;
     }

@@ -5,13 +5,17 @@ use Rattle.fraction128.proofs.powers.is_product_within.Goals as goal
 
 pub returns-in_default : goal.returns-in_default
 returns-in_default c =
-    let passes : c.args.limit < product c.args.factors.now = product_passes _ c.loop-factor.factor-index c.loop-factor.product c.args.limit c.requires.positive (omega arith) c.loop-factor.invariant.0 (omega (arith, c.in-Some.ensures)) in
+    let so_far = c.loop-factor in
+    let passes : c.args.limit < product c.args.factors.now = product_passes _ so_far.factor-index so_far.product c.args.limit c.requires.positive (omega arith) so_far.invariant.0 (omega (arith, c.in_default.ensures)) in
     (λ h. absurd (cc), λ h. absurd (omega arith))
 
-pub returns-in_default-2 : goal.returns-in_default-2
-returns-in_default-2 c =
-    let passes : c.args.limit < product c.args.factors.now = product_passes _ c.loop-factor.factor-index c.loop-factor.product c.args.limit c.requires.positive (omega arith) c.loop-factor.invariant.0 (omega (arith, c.in_default.ensures)) in
+pub returns-then-next-limit : goal.returns-then-next-limit
+returns-then-next-limit c =
+    let so_far = c.loop-factor in
+    let passes : c.args.limit < product c.args.factors.now = product_passes _ so_far.factor-index so_far.product c.args.limit c.requires.positive (omega arith) so_far.invariant.0 (omega (arith, c.in-Some.ensures)) in
     (λ h. absurd (cc), λ h. absurd (omega arith))
 
 pub loop-factor-preserved : goal.loop-factor-preserved
-loop-factor-preserved c = (product-drop_more c.args.factors.now c.loop-factor.factor-index c.loop-factor.product c.in-Some.next (omega arith) c.in-Some.ensures.1 ∙ c.loop-factor.invariant.0, omega arith)
+loop-factor-preserved c =
+    let so_far = c.loop-factor in
+    (product-drop_more c.args.factors.now so_far.factor-index so_far.product c.in-Some.next (omega arith) c.in-Some.ensures.1 ∙ so_far.invariant.0, omega arith)

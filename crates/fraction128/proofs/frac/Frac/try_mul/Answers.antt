@@ -25,11 +25,13 @@ invariant_of-result c =
 pub returns-clause-fits : goal.returns-clause-fits
 returns-clause-fits c =
     let facts = multiplied c.args.self.now c.args.other.now c.new-first.result c.new-second.result (search rules) (search rules) (search rules) (search rules) c.new-first.ensures.value c.new-second.ensures.value in
-    let Fits : ℤ → Type 0 = λ z. FitsSigned w128 z in
-    (λ _. record {
-      reduced_num = subst Fits facts.num_is c.in_ok-num.ensures.0;
-      reduced_den = omega (arith, facts.den_is, c.in_ok-den.ensures)
-    }, λ _. search rules)
+    let Fits : ℤ → Type 0 = λ z. FitsSigned w128 z in (
+      λ _. record {
+        reduced_num = subst Fits facts.num_is c.in_ok-num.ensures.0;
+        reduced_den = omega (arith, facts.den_is, c.in_ok-den.ensures);
+      },
+      λ _. search rules,
+    )
 
 pub returns-clause-value : goal.returns-clause-value
 returns-clause-value c =

@@ -36,4 +36,4 @@ returns-clause-value c =
     let is = difference_is x y a c.in_ok-total.total facts.value (facts.fits.0 refl) c.in_ok-total.ensures in
     IfSome_then c.over_common.result c.over_common.ensures.value
     (λ r h. IsDifference-from_common x y r a.parts facts.value.split
-        (from_bits (λ z. IsQuotient z (least_common a.parts) r) c.in_ok-total.total (raised_num x y -ℤ raised_num y x) is h))
+    (from_bits (λ z. IsQuotient z (least_common a.parts) r) c.in_ok-total.total (raised_num x y -ℤ raised_num y x) is h))
