@@ -1,6 +1,8 @@
 -- What fractions add up to, multiply to and compare as, and when that fits.
 use Rattle.std.specs.Prelude.{◌≡◌, ℕ, ◌*◌, ◌/◌, ◌^◌, ◌<◌, ℤ, pos, ◌+ℤ◌, ◌-ℤ◌, ◌*ℤ◌, FitsSigned}
 use Rattle.std.specs.Int.{w128}
+use Rattle.std.specs.Ordering.{int_cmp}
+use Rattle.std.specs.declared.cmp.Ordering.{Ordering}
 use Rattle.fraction128.specs.Lowest.{lowest_unique}
 use Rattle.fraction128.specs.Reduced.{gcd_of, lowest_num, lowest_den}
 use Rattle.fraction128.specs.declared.frac.Frac.{Frac}
@@ -26,6 +28,10 @@ IsDifference x y r = IsQuotient (cross x y -ℤ cross y x) (x.den * y.den) r
 -- r is x times y
 abbrev pub IsProduct : Frac → Frac → Frac → Type 0
 IsProduct x y r = IsQuotient (x.num *ℤ y.num) (x.den * y.den) r
+
+-- how x and y compare
+abbrev pub order_of : Frac → Frac → Ordering
+order_of x y = int_cmp (cross x y) (cross y x)
 
 -- ---- what fits
 

@@ -5,3 +5,4 @@ pub mod Printed
 pub mod Product
 pub mod Arithmetic
 pub mod Split
+pub mod Bounds

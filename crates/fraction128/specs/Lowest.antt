@@ -21,8 +21,8 @@ same_ratio a b g h =
     let eb : b / g * g ≡ b = div-mul_cancel g h.1 in
     ap (λ n. a / g * n) (sym eb) ∙ omega arith ∙ ap (λ n. n * (b / g)) ea
 
-pub no_common : (a b g : ℕ) → 0 < b → IsGcd a b g → (d : ℕ) → d ∣ a / g → d ∣ b / g → d ≡ 1
-no_common a b g p h d da db =
+pub no_common : (a b g : ℕ) → 0 < b → IsGcd a b g → AreCoprime (a / g) (b / g)
+no_common a b g p h = λ d da db.
     let ea : a / g * g ≡ a = div-mul_cancel g h.0 in
     let eb : b / g * g ≡ b = div-mul_cancel g h.1 in
     let ha : d * g ∣ a = rw ea at (mul-dvd-mul_right d da g) in
@@ -140,6 +140,9 @@ abs_with_sign : (z : ℤ) (n : ℕ) → unsigned_abs (with_sign_of z n) ≡ n
 abs_with_sign (pos a) n = refl
 abs_with_sign (negsuc a) n = omega (arith, ints)
 
+pub abs-lowest_num : (num : ℤ) (den : ℕ) → unsigned_abs (lowest_num num den) ≡ unsigned_abs num / gcd_of (unsigned_abs num) den
+abs-lowest_num num den = abs_with_sign num (unsigned_abs num / gcd_of (unsigned_abs num) den)
+
 -- a size's quotient, under the number's sign
 sign_cross : (z : ℤ) (size d e : ℕ) → size * d ≡ unsigned_abs z * e → with_sign_of z size *ℤ pos d ≡ z *ℤ pos e
 sign_cross (pos a) size d e h = ap pos h
@@ -154,7 +157,7 @@ IsReduced-lowest num den some =
     let P : ℕ → Type 0 = λ n. AreCoprime n (den / g) in
     record {
       positive = quotient_pos (unsigned_abs num) den g some greatest;
-      lowest = subst P (sym (abs_with_sign num (unsigned_abs num / g))) (no_common (unsigned_abs num) den g some greatest);
+      lowest = subst P (sym (abs-lowest_num num den)) (no_common (unsigned_abs num) den g some greatest);
     }
 
 -- num/den in lowest terms has the value of num/den

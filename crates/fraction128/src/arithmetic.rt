@@ -2,11 +2,10 @@
 ghost use Rattle.std.specs.Prelude.{◌≡◌, ◌↔◌, ◌*◌, ◌^◌, ◌<◌, pos, ◌*ℤ◌, IsSome, IfSome, FitsSigned, unsigned_abs};
 ghost use Rattle.std.specs.Int.{w128};
 ghost use Rattle.std.specs.Option.{SomeIff};
-ghost use Rattle.std.specs.Ordering.{int_cmp};
 ghost use Rattle.fraction128.specs.Divisors.{AreCoprime};
 ghost use Rattle.fraction128.specs.Reduced.{lowest_den};
 ghost use Rattle.fraction128.specs.Split.{IsSplit, IsAligned, den_with, least_common};
-ghost use Rattle.fraction128.specs.Arithmetic.{cross, IsQuotient, IsSum, IsDifference, IsProduct, NumsFit, SumFits, DifferenceFits, ProductFits, CrossFits};
+ghost use Rattle.fraction128.specs.Arithmetic.{order_of, IsQuotient, IsSum, IsDifference, IsProduct, NumsFit, SumFits, DifferenceFits, ProductFits, CrossFits};
 
 use crate::divisor::gcd;
 use crate::frac::Frac;
@@ -74,8 +73,8 @@ fn checked_den(shared: u128, parts: &Denominators) -> Option<u128>
     den.checked_mul(parts.second)
 }
 
-// `total` over the least common denominator, in lowest terms.
-// Only what the denominators share can cancel, since `total` shares no divisor with their other parts.
+// `total` over the least common denominator, in lowest terms. Only what the denominators share can
+// cancel, since `total` shares no divisor with their other parts (Knuth, TAOCP, section 4.5.1).
 fn over_common(total: i128, parts: &Denominators) -> Option<Frac>
     requires first { 0 < parts.now.first }
     requires second { 0 < parts.now.second }
@@ -90,8 +89,10 @@ fn over_common(total: i128, parts: &Denominators) -> Option<Frac>
 }
 
 impl Frac {
-    /// The exact sum. With a/b and c/e for the two and g = gcd(b, e), it is `None` exactly where
-    /// a·(e/g), c·(b/g) or their sum leaves i128, or the sum's denominator in lowest terms leaves u128.
+    /// The exact sum of a/b and c/e.
+    ///
+    /// With g = gcd(b, e) it is `None` exactly where a·(e/g), c·(b/g) or their sum leaves i128, or
+    /// the denominator in lowest terms leaves u128.
     pub fn try_add(&self, other: &Frac) -> Option<Frac>
         ensures fits { IsSome result ↔ SumFits self.now other.now }
         ensures value { IfSome result (IsSum self.now other.now) }
@@ -101,7 +102,10 @@ impl Frac {
         over_common(total, &aligned.parts)
     }
 
-    /// The exact difference, `None` as in [`Frac::try_add`] with the difference in the place of the sum.
+    /// The exact difference of a/b and c/e.
+    ///
+    /// With g = gcd(b, e) it is `None` exactly where a·(e/g), c·(b/g) or their difference leaves
+    /// i128, or the denominator in lowest terms leaves u128.
     pub fn try_sub(&self, other: &Frac) -> Option<Frac>
         ensures fits { IsSome result ↔ DifferenceFits self.now other.now }
         ensures value { IfSome result (IsDifference self.now other.now) }
@@ -111,7 +115,7 @@ impl Frac {
         over_common(total, &aligned.parts)
     }
 
-    /// The exact product, `None` exactly where it leaves i128 over u128 in lowest terms.
+    /// The exact product. It is `None` exactly where it leaves i128 over u128 in lowest terms.
     pub fn try_mul(&self, other: &Frac) -> Option<Frac>
         ensures fits { IsSome result ↔ ProductFits self.now other.now }
         ensures value { IfSome result (IsProduct self.now other.now) }
@@ -123,10 +127,9 @@ impl Frac {
         Some(Frac { num, den })
     }
 
-    /// The order of the two values. With a/b and c/e for them, it is `None` exactly where a·e or c·b leaves i128.
+    /// The order of the two values, a/b and c/e. It is `None` exactly where a·e or c·b leaves i128.
     pub fn try_cmp(&self, other: &Frac) -> Option<Ordering>
-        ensures fits { IsSome result ↔ CrossFits self.now other.now }
-        ensures value { IfSome result (λ order. order ≡ int_cmp (cross self.now other.now) (cross other.now self.now)) }
+        ensures { SomeIff result (CrossFits self.now other.now) (order_of self.now other.now) }
     {
         let first = checked_scale(self.num, other.den)?;
         let second = checked_scale(other.num, self.den)?;

@@ -3,9 +3,10 @@ ghost use Rattle.std.specs.Prelude.{◌≡◌, ◌↔◌, ◌^◌, ◌<◌, ◌�
 ghost use Rattle.std.specs.Option.{SomeIff};
 ghost use Rattle.fraction128.specs.Product.{product};
 
-/// `base` to the power of `times`, and `None` exactly where that passes u128. 0 to the power of 0 is 1.
+/// `base` to the power of `times`, and `None` exactly where that passes u128.
+/// 0 to the power of 0 is 1.
 ///
-/// It ends at the first product that doesn't fit, so it takes at most 127 steps.
+/// It ends at the first product that doesn't fit, so it takes at most 128 products.
 pub fn checked_pow(base: u128, times: u32) -> Option<u128>
     ensures { SomeIff result (base ^ times < 2 ^ 128) (base ^ times) }
 {

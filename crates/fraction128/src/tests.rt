@@ -14,10 +14,7 @@ fn fraction(rt: &impl Abort, pair: Pair) -> Frac {
 }
 
 fn pair_of(answer: Option<Frac>) -> Option<Pair> {
-    match answer {
-        Some(found) => Some((found.num, found.den)),
-        None => None,
-    }
+    answer.map(|found| (found.num, found.den))
 }
 
 #[test]
