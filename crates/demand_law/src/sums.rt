@@ -231,20 +231,19 @@ mod tests {
 
     #[test]
     fn three_dice(rt: HostRuntime) -> Result<(), Fail> {
-        let die = Law::from_points(
+        let dice = [Law::from_points(
             rt.alloc(),
             &[(1, 1), (2, 1), (3, 1), (4, 1), (5, 1), (6, 1)],
-        )?;
-        let total = lead_sum(rt.alloc(), &[die], 7, 3)?;
-        assert_eq!(rt; total.greatest(), 18);
-        assert_eq!(rt; total.total(), 216);
-        assert_eq!(rt;
-            total.weights(),
-            [
-                0, 0, 0, 1, 3, 6, 10, 15, 21, 25, 27, 27, 25, 21, 15, 10, 6, 3, 1
-            ]
-            .as_slice()
-        );
+        )?];
+        let totals = [
+            0, 0, 0, 1, 3, 6, 10, 15, 21, 25, 27, 27, 25, 21, 15, 10, 6, 3, 1,
+        ];
+        let sum = lead_sum(rt.alloc(), &dice, 7, 3)?;
+        assert_eq!(rt; sum.weights(), totals.as_slice());
+        let mut sums = [9; 38];
+        let width = lead_into(&dice, 7, 3, &mut sums);
+        assert_eq!(rt; width, 19);
+        assert_eq!(rt; &sums[..19], totals.as_slice());
         Ok(())
     }
 
