@@ -1,5 +1,5 @@
 -- A sum over sequences is the sum over the list of them.
-use Rattle.std.proofs.Common.{subst, zero-add, ◌<◌, slice_index_or, ◌⊎◌, inl, inr, ◌≡◌, ℕ, suc, ◌+◌, ◌*◌, ◌+ℤ◌, ◌*ℤ◌, List, [], ◌∷◌, ◌++◌, map, length, ℤ, pos, refl, sym, ◌∙◌, ap, arith, slice_index, flat_map, mul_comm, zero}
+use Rattle.std.proofs.Common.{subst, zero-add, ◌<◌, slice_index_or, inl, inr, ◌≡◌, ℕ, suc, ◌+◌, ◌*◌, ◌+ℤ◌, ◌*ℤ◌, List, [], ◌∷◌, ◌++◌, map, length, ℤ, pos, refl, sym, ◌∙◌, ap, arith, slice_index, flat_map, mul_comm, zero}
 use Rattle.std.specs.List.{range_with_len, Contains}
 use Rattle.std.proofs.lemmas.Int.{ints}
 use Rattle.std.proofs.lemmas.List.Elements.{Contains-append_left, Contains-append_right, Contains-append_cases}
@@ -90,10 +90,10 @@ Contains-flat_map_from : {X Y : Type 0} (h : X → List Y) (xs : List X) (y : Y)
 Contains-flat_map_from h [] y (k, lt, e) = absurd (omega arith)
 Contains-flat_map_from h (z ∷ xs) y has =
     elim (Contains-append_cases (h z) (flat_map h xs) y has) [
-      inl first ↦ (z, (0, omega arith, refl), first)
+      | inl first ↦ (z, (0, omega arith, refl), first)
       | inr others ↦
-        let later = Contains-flat_map_from h xs y others in
-        (later.0, (suc later.1.0, omega (arith, later.1.1), later.1.2), later.2)
+          let later = Contains-flat_map_from h xs y others in
+          (later.0, (suc later.1.0, omega (arith, later.1.1), later.1.2), later.2)
     ]
 
 -- every sequence stands in the list

@@ -70,9 +70,9 @@ fn convolve_into(first: &[u128], second: &[u128], sums: &mut [u128])
     }
 }
 
-/// The law of the sum of two independent demands.
+/// The law of the sum of two independent demands. `Width` where the product of the sums of weights passes 2^120.
 ///
-/// It takes one multiplication for each pair of a demand of the one and a demand of the other.
+/// It takes at most one multiplication for each pair of a demand of the one and a demand of the other.
 pub fn convolve(alloc: Global, a: &Law, b: &Law) -> Result<Law, SumErr>
     requires { greatest_of a.now + greatest_of b.now ≤ 4000000000 }
     ensures is_sum { IfOk result (λ law. IsSumOf law (a.now ∷ b.now ∷ [])) }
@@ -172,7 +172,7 @@ fn sum_into(laws: &[Law], from: usize, count: usize, sums: &mut [u128], next: &m
 }
 
 /// The law of the sum of independent demands, one for each of `count` places from `from` on. A list of one law has that
-/// law at every place.
+/// law at every place. `Width` where the product of the sums of weights passes 2^120.
 ///
 /// The laws are convolved one after another, with room for two laws of the sum.
 pub fn lead_sum(alloc: Global, laws: &[Law], from: usize, count: usize) -> Result<Law, SumErr>
@@ -195,8 +195,8 @@ pub fn lead_sum(alloc: Global, laws: &[Law], from: usize, count: usize) -> Resul
     Ok(Law::from_weights(sums))
 }
 
-/// Writes the weights of the law that `lead_sum` gives into the first places of `sums`, and says how many they are. It
-/// takes no memory. What stands in the other places afterwards is left open.
+/// Writes the weights of the law that `lead_sum` gives into the first places of `sums`, and says how many they are. The
+/// other places are room to work in, and what stands there afterwards is left open. It takes no memory.
 pub fn lead_into(laws: &[Law], from: usize, count: usize, sums: &mut [u128]) -> usize
     requires some { 1 ≤ count }
     requires serves { Serves laws.now from count }
