@@ -8,3 +8,4 @@ pub mod SequenceSums
 pub mod LawSums
 pub mod ListedSums
 pub mod ServedLaws
+pub mod Named

@@ -2,6 +2,7 @@
 #![tactic(auto)]
 
 mod law;
+mod named;
 mod points;
 mod sums;
 
