@@ -16,13 +16,16 @@ use Rattle.demand_law.specs.WeightedSums.{sum-cons, weighted-ext, weighted-zero,
 use Rattle.demand_law.specs.SequenceSums.{sum_sequence, over-ext, over-zero, over-scale_right, over-const, over-weighted, over-append, over_nonnegative, over_from-front, greatest_sum-append}
 
 -- ---- tests for equality, as numbers
+-- 1 at equal numbers
 pub one_at-same : (e : ℕ) → one_at e e ≡ pos 1
 one_at-same zero = refl
 one_at-same (suc e) = ap (λ b. if b then pos 1 else pos 0) (eqb-suc-suc e e) ∙ one_at-same e
 
+-- 0 at others
 pub one_at-other : (s e : ℕ) → (s ≡ e → ⊥) → one_at s e ≡ pos 0
 one_at-other s e ne = ap (λ b. if b then pos 1 else pos 0) (ne_eqb s e ne)
 
+-- never below 0
 pub one_at_nonnegative : (s e : ℕ) → pos 0 ≤ℤ one_at s e
 one_at_nonnegative s e = go (s == e)
   where
@@ -30,6 +33,7 @@ one_at_nonnegative s e = go (s == e)
     go true = omega (arith, ints)
     go false = omega (arith, ints)
 
+-- never above 1
 pub one_at_most : (s e : ℕ) → one_at s e ≤ℤ pos 1
 one_at_most s e = go (s == e)
   where
@@ -96,6 +100,7 @@ regroup_front law w same lead k t n h is =
     over_from-front law w same k t n (λ ds. h (sum ds)) ∙ ap (λ z. pos (w ^ n) *ℤ z) (regroup lead (laws_from law t k) h is)
 
 -- ---- the weights of a sum
+-- no weight of a sum is below 0
 pub weight_of_sum_nonnegative : (laws : List (List ℕ)) (e : ℕ) → pos 0 ≤ℤ weight_of_sum laws e
 weight_of_sum_nonnegative laws e = over_nonnegative laws (λ ds. one_at (sum ds) e) (λ ds s. one_at_nonnegative (sum ds) e)
 
@@ -158,6 +163,7 @@ pub IsSumOf_unique : (law other : List ℕ) (laws : List (List ℕ)) → IsSumOf
 IsSumOf_unique law other laws is is_other =
     same_number_lists law other (is.width ∙ sym is_other.width) (λ e lt. omega (arith, ints, is.weights e ∙ sym (is_other.weights e)))
 
+-- law_of_sum is the law of the sum
 pub IsSumOf-law_of_sum : (laws : List (List ℕ)) → IsSumOf (law_of_sum laws) laws
 IsSumOf-law_of_sum laws = record {
   weights = λ e. by_place e (cases_lt e (greatest_sum laws + 1));
@@ -201,6 +207,7 @@ weight_of_sum_last (law ∷ laws) all =
     let scaled = weight_mono (slice_index law g) (pos 1) (over laws (λ ds. one_at (sum (g ∷ ds)) e)) (subst (λ (z : ℤ). pos 1 ≤ℤ z) (sym others) least) in
     omega (arith, ints, is.last, term, scaled, Z.mul_one (pos (slice_index law g)))
 
+-- the law of a sum of laws is a law, if it is not too wide
 pub IsLaw-IsSumOf : (law : List ℕ) (laws : List (List ℕ)) → IsSumOf law laws → All IsLaw laws → totals_of laws ≤ 2 ^ 120 → greatest_sum laws ≤ 4000000000 → IsLaw law
 IsLaw-IsSumOf law laws is all fits short = record {
   some = omega (arith, is.width);
@@ -213,9 +220,11 @@ IsLaw-IsSumOf law laws is all fits short = record {
     greatest = omega (arith, is.width)
 
 -- ---- the sums of weights
+-- the weights of a law add up to more than 0
 pub sum_positive : (law : List ℕ) → IsLaw law → 0 < sum law
 sum_positive law is = omega (arith, is.some, is.last, get_or-le-sum_by (λ x. x) law (greatest_of law) 0 (omega (arith, is.some)))
 
+-- the product of the sums of weights of laws is above 0
 pub totals_of_positive : (laws : List (List ℕ)) → All IsLaw laws → 0 < totals_of laws
 totals_of_positive [] all = omega arith
 totals_of_positive (law ∷ laws) all =

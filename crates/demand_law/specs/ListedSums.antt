@@ -1,9 +1,11 @@
 -- A sum over sequences is the sum over the list of them.
-use Rattle.std.proofs.Common.{◌≡◌, ℕ, suc, ◌+◌, ◌*◌, ◌+ℤ◌, ◌*ℤ◌, List, [], ◌∷◌, ◌++◌, map, length, ℤ, pos, refl, sym, ◌∙◌, ap, arith, slice_index, flat_map, mul_comm, zero}
-use Rattle.std.specs.List.{range_with_len}
+use Rattle.std.proofs.Common.{subst, zero-add, ◌<◌, slice_index_or, inl, inr, ◌≡◌, ℕ, suc, ◌+◌, ◌*◌, ◌+ℤ◌, ◌*ℤ◌, List, [], ◌∷◌, ◌++◌, map, length, ℤ, pos, refl, sym, ◌∙◌, ap, arith, slice_index, flat_map, mul_comm, zero}
+use Rattle.std.specs.List.{range_with_len, Contains}
 use Rattle.std.proofs.lemmas.Int.{ints}
+use Rattle.std.proofs.lemmas.List.Elements.{Contains-append_left, Contains-append_right, Contains-append_cases}
+use Rattle.std.proofs.lemmas.List.FromFn.{length-range_with_len, get_or-range_with_len}
 use Rattle.demand_law.specs.Law.{weighted}
-use Rattle.demand_law.specs.Sequences.{over, sequences, sequence_weight, sum_ℤ}
+use Rattle.demand_law.specs.Sequences.{over, IsSequence, sequences, sequence_weight, sum_ℤ}
 use Rattle.demand_law.specs.Integers as Z
 use Rattle.demand_law.specs.SequenceSums.{over-scale}
 
@@ -61,3 +63,60 @@ over-listed (law ∷ laws) f =
     weighted-listed law (λ d. over laws (λ ds. f (d ∷ ds)))
     ∙ ap sum_ℤ (λ i. map (λ d. first-listed law laws f d (over-listed laws (λ ds. pos (slice_index law d) *ℤ f (d ∷ ds))) i) (range_with_len 0 (length law)))
     ∙ sym (sum_ℤ-flat_map (λ ds. pos (sequence_weight (law ∷ laws) ds) *ℤ f ds) (λ d. map (λ ds. d ∷ ds) (sequences laws)) (range_with_len 0 (length law)))
+
+-- ---- the list has the sequences, and nothing else
+Contains-map : {X Y : Type 0} (g : X → Y) (xs : List X) (x : X) → Contains xs x → Contains (map g xs) (g x)
+Contains-map g [] x (k, lt, e) = absurd (omega arith)
+Contains-map g (y ∷ xs) x (zero, lt, e) = (0, omega arith, ap g e)
+Contains-map g (y ∷ xs) x (suc k, lt, e) =
+    let later = Contains-map g xs x (k, omega arith, e) in
+    (suc later.0, omega (arith, later.1), later.2)
+
+Contains-map_from : {X Y : Type 0} (g : X → Y) (xs : List X) (y : Y) → Contains (map g xs) y → (x : X) × Contains xs x × (g x ≡ y)
+Contains-map_from g [] y (k, lt, e) = absurd (omega arith)
+Contains-map_from g (x ∷ xs) y (zero, lt, e) = (x, (0, omega arith, refl), e)
+Contains-map_from g (x ∷ xs) y (suc k, lt, e) =
+    let later = Contains-map_from g xs y (k, omega arith, e) in
+    (later.0, (suc later.1.0, omega (arith, later.1.1), later.1.2), later.2)
+
+Contains-flat_map : {X Y : Type 0} (h : X → List Y) (xs : List X) (x : X) (y : Y) → Contains xs x → Contains (h x) y → Contains (flat_map h xs) y
+Contains-flat_map h [] x y (k, lt, e) has = absurd (omega arith)
+Contains-flat_map {X} {Y} h (z ∷ xs) x y (zero, lt, e) has =
+    let P : X → Type 0 = λ v. Contains (h v) y in
+    Contains-append_left (h z) (flat_map h xs) y (subst P (sym e) has)
+Contains-flat_map h (z ∷ xs) x y (suc k, lt, e) has = Contains-append_right (h z) (flat_map h xs) y (Contains-flat_map h xs x y (k, omega arith, e) has)
+
+Contains-flat_map_from : {X Y : Type 0} (h : X → List Y) (xs : List X) (y : Y) → Contains (flat_map h xs) y → (x : X) × Contains xs x × Contains (h x) y
+Contains-flat_map_from h [] y (k, lt, e) = absurd (omega arith)
+Contains-flat_map_from h (z ∷ xs) y has =
+    elim (Contains-append_cases (h z) (flat_map h xs) y has) [
+      | inl first ↦ (z, (0, omega arith, refl), first)
+      | inr others ↦
+          let later = Contains-flat_map_from h xs y others in
+          (later.0, (suc later.1.0, omega (arith, later.1.1), later.1.2), later.2)
+    ]
+
+-- every sequence stands in the list
+pub sequences_all : (laws : List (List ℕ)) (ds : List ℕ) → IsSequence laws ds → Contains (sequences laws) ds
+sequences_all [] [] s = (0, omega arith, refl)
+sequences_all [] (d ∷ ds) s = absurd s
+sequences_all (law ∷ laws) [] s = absurd s
+sequences_all (law ∷ laws) (d ∷ ds) s =
+    let places = range_with_len 0 (length law) in
+    let within : d < length places = omega (arith, length-range_with_len 0 (length law), s.0) in
+    let place : slice_index_or places d d ≡ d = get_or-range_with_len 0 (length law) d d s.0 ∙ zero-add d in
+    Contains-flat_map (λ k. map (λ es. k ∷ es) (sequences laws)) places d (d ∷ ds) (d, within, place) (Contains-map (λ es. d ∷ es) (sequences laws) ds (sequences_all laws ds s.1))
+
+-- and nothing else does
+pub sequences_only : (laws : List (List ℕ)) (ds : List ℕ) → Contains (sequences laws) ds → IsSequence laws ds
+sequences_only [] ds (zero, lt, e) = subst (IsSequence []) e tt
+sequences_only [] ds (suc k, lt, e) = absurd (omega arith)
+sequences_only (law ∷ laws) ds has =
+    let from = Contains-flat_map_from (λ d. map (λ es. d ∷ es) (sequences laws)) (range_with_len 0 (length law)) ds has in
+    let later = Contains-map_from (λ es. from.0 ∷ es) (sequences laws) ds from.2 in
+    subst (IsSequence (law ∷ laws)) later.2 (small from.0 from.1, sequences_only laws later.0 later.1)
+  where
+    small : (d : ℕ) → Contains (range_with_len 0 (length law)) d → d < length law
+    small d (k, lt, e) =
+        let within : k < length law = omega (arith, length-range_with_len 0 (length law)) in
+        omega (arith, get_or-range_with_len 0 (length law) k d within, e)

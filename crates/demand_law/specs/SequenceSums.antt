@@ -7,6 +7,7 @@ use Rattle.demand_law.specs.Integers as Z
 use Rattle.demand_law.specs.WeightedSums.{sum-cons, weighted-ext, weighted-ext_within, weighted-add, weighted-sub, weighted-scale, weighted-mono, weighted-const, weighted-zero, weighted-swap}
 
 -- ---- sequences
+-- a sequence has one demand for each law
 pub length-sequence : (laws : List (List ℕ)) (ds : List ℕ) → IsSequence laws ds → length ds ≡ length laws
 length-sequence [] [] s = refl
 length-sequence [] (d ∷ ds) s = absurd s
@@ -20,17 +21,20 @@ sum_sequence [] (d ∷ ds) s = absurd s
 sum_sequence (law ∷ laws) [] s = absurd s
 sum_sequence (law ∷ laws) (d ∷ ds) s = omega (arith, s.0, sum_sequence laws ds s.1, sum-cons d ds)
 
+-- a sequence behind another
 pub sequence_joined : (front back : List (List ℕ)) (ds es : List ℕ) → IsSequence front ds → IsSequence back es → IsSequence (front ++ back) (ds ++ es)
 sequence_joined [] back [] es s r = r
 sequence_joined [] back (d ∷ ds) es s r = absurd s
 sequence_joined (law ∷ front) back [] es s r = absurd s
 sequence_joined (law ∷ front) back (d ∷ ds) es s r = (s.0, sequence_joined front back ds es s.1 r)
 
+-- the demands of the first laws
 pub sequence_front : (front back : List (List ℕ)) (ds : List ℕ) → IsSequence (front ++ back) ds → IsSequence front (take (length front) ds)
 sequence_front [] back ds s = tt
 sequence_front (law ∷ front) back [] s = absurd s
 sequence_front (law ∷ front) back (d ∷ ds) s = (s.0, sequence_front front back ds s.1)
 
+-- the demands of the last laws
 pub sequence_back : (front back : List (List ℕ)) (ds : List ℕ) → IsSequence (front ++ back) ds → IsSequence back (drop (length front) ds)
 sequence_back [] back ds s = s
 sequence_back (law ∷ front) back [] s = absurd s
@@ -44,6 +48,7 @@ sequence_at (law ∷ laws) (d ∷ ds) zero s lt = s.0
 sequence_at (law ∷ laws) (d ∷ ds) (suc k) s lt = sequence_at laws ds k s.1 (omega arith)
 
 -- ---- the laws of periods
+-- there are as many laws as periods
 pub length-laws_from : (law : ℕ → List ℕ) (t n : ℕ) → length (laws_from law t n) ≡ n
 length-laws_from law t zero = refl
 length-laws_from law t (suc n) = ap suc (length-laws_from law (suc t) n)
@@ -58,6 +63,7 @@ laws_from-ext law other t s (suc n) h =
     moved : (a k : ℕ) → suc a + k ≡ a + suc k
     moved a k = omega arith
 
+-- the laws of k periods, and those of n more
 pub laws_from-append : (law : ℕ → List ℕ) (t k n : ℕ) → laws_from law t (k + n) ≡ laws_from law t k ++ laws_from law (t + k) n
 laws_from-append law t zero n = ap (laws_from law t) (zero-add n) ∙ ap (λ s. laws_from law s n) (sym (add-zero t))
 laws_from-append law t (suc k) n =
@@ -67,6 +73,7 @@ laws_from-append law t (suc k) n =
     moved : suc t + k ≡ t + suc k
     moved = omega arith
 
+-- the law of a period
 pub slice_index_or-laws_from : (law : ℕ → List ℕ) (t n k : ℕ) (d : List ℕ) → k < n → slice_index_or (laws_from law t n) k d ≡ law (t + k)
 slice_index_or-laws_from law t zero k d lt = absurd (omega arith)
 slice_index_or-laws_from law t (suc n) zero d lt = ap law (sym (add-zero t))
@@ -85,35 +92,42 @@ pub laws_from-last : (law : ℕ → List ℕ) (t n : ℕ) → laws_from law t (n
 laws_from-last law t n = laws_from-append law t n 1
 
 -- ---- linearity
+-- a sum of functions
 pub over-add : (laws : List (List ℕ)) (f g : List ℕ → ℤ) → over laws (λ ds. f ds +ℤ g ds) ≡ over laws f +ℤ over laws g
 over-add [] f g = refl
 over-add (law ∷ laws) f g =
     weighted-ext law _ _ (λ d. over-add laws (λ ds. f (d ∷ ds)) (λ ds. g (d ∷ ds))) ∙ weighted-add law _ _
 
+-- a difference of functions
 pub over-sub : (laws : List (List ℕ)) (f g : List ℕ → ℤ) → over laws (λ ds. f ds -ℤ g ds) ≡ over laws f -ℤ over laws g
 over-sub [] f g = refl
 over-sub (law ∷ laws) f g =
     weighted-ext law _ _ (λ d. over-sub laws (λ ds. f (d ∷ ds)) (λ ds. g (d ∷ ds))) ∙ weighted-sub law _ _
 
+-- a factor comes out at the left
 pub over-scale : (c : ℤ) (laws : List (List ℕ)) (f : List ℕ → ℤ) → over laws (λ ds. c *ℤ f ds) ≡ c *ℤ over laws f
 over-scale c [] f = refl
 over-scale c (law ∷ laws) f =
     weighted-ext law _ _ (λ d. over-scale c laws (λ ds. f (d ∷ ds))) ∙ weighted-scale c law _
 
+-- a factor comes out at the right
 pub over-scale_right : (c : ℤ) (laws : List (List ℕ)) (f : List ℕ → ℤ) → over laws (λ ds. f ds *ℤ c) ≡ over laws f *ℤ c
 over-scale_right c laws f =
     ap (over laws) (λ i ds. Z.mul_comm (f ds) c i) ∙ over-scale c laws f ∙ Z.mul_comm c (over laws f)
 
+-- nothing adds up to nothing
 pub over-zero : (laws : List (List ℕ)) → over laws (λ ds. pos 0) ≡ pos 0
 over-zero [] = refl
 over-zero (law ∷ laws) = weighted-ext law _ _ (λ d. over-zero laws) ∙ weighted-zero law
 
 -- ---- order and extensionality, on the sequences alone
+-- a function that is nowhere greater has no greater sum
 pub over-mono : (laws : List (List ℕ)) (f g : List ℕ → ℤ) → ((ds : List ℕ) → IsSequence laws ds → f ds ≤ℤ g ds) → over laws f ≤ℤ over laws g
 over-mono [] f g h = h [] tt
 over-mono (law ∷ laws) f g h =
     weighted-mono law _ _ (λ d lt. over-mono laws (λ ds. f (d ∷ ds)) (λ ds. g (d ∷ ds)) (λ ds s. h (d ∷ ds) (lt, s)))
 
+-- functions that are equal on the sequences have equal sums
 pub over-ext : (laws : List (List ℕ)) (f g : List ℕ → ℤ) → ((ds : List ℕ) → IsSequence laws ds → f ds ≡ g ds) → over laws f ≡ over laws g
 over-ext [] f g h = h [] tt
 over-ext (law ∷ laws) f g h =
@@ -140,6 +154,7 @@ over-weighted (first ∷ laws) law f =
     weighted-ext first _ _ (λ i. over-weighted laws law (λ ds. f (i ∷ ds)))
     ∙ weighted-swap first law (λ i d. over laws (λ ds. f (i ∷ ds) d))
 
+-- two groups of laws may change places
 pub over-swap : (front back : List (List ℕ)) (f : List ℕ → List ℕ → ℤ) → over front (λ ds. over back (f ds)) ≡ over back (λ es. over front (λ ds. f ds es))
 over-swap [] back f = refl
 over-swap (law ∷ front) back f =
@@ -155,10 +170,12 @@ over-const (law ∷ laws) c =
     ∙ weighted-const law (pos (totals_of laws) *ℤ c)
     ∙ sym (Z.mul_assoc (pos (sum law)) (pos (totals_of laws)) c)
 
+-- the product over some laws and others
 pub totals_of-append : (front back : List (List ℕ)) → totals_of (front ++ back) ≡ totals_of front * totals_of back
 totals_of-append [] back = omega arith
 totals_of-append (law ∷ front) back = ap (λ n. sum law * n) (totals_of-append front back) ∙ sym (mul_assoc (sum law) (totals_of front) (totals_of back))
 
+-- the greatest demands of some laws and others
 pub greatest_sum-append : (front back : List (List ℕ)) → greatest_sum (front ++ back) ≡ greatest_sum front + greatest_sum back
 greatest_sum-append [] back = omega arith
 greatest_sum-append (law ∷ front) back = omega (arith, greatest_sum-append front back)
@@ -187,11 +204,13 @@ over_most laws f c h = subst (λ (z : ℤ). over laws f ≤ℤ z) (over-const la
 pub over_least : (laws : List (List ℕ)) (f : List ℕ → ℤ) (c : ℤ) → ((ds : List ℕ) → IsSequence laws ds → c ≤ℤ f ds) → (pos (totals_of laws) *ℤ c) ≤ℤ over laws f
 over_least laws f c h = subst (λ (z : ℤ). z ≤ℤ over laws f) (over-const laws c) (over-mono laws (λ ds. c) f h)
 
+-- no value below 0, no sum below 0
 pub over_nonnegative : (laws : List (List ℕ)) (f : List ℕ → ℤ) → ((ds : List ℕ) → IsSequence laws ds → pos 0 ≤ℤ f ds) → pos 0 ≤ℤ over laws f
 over_nonnegative laws f h = subst (λ (z : ℤ). z ≤ℤ over laws f) (over-zero laws) (over-mono laws (λ ds. pos 0) f h)
 
 -- ---- periods whose laws have one sum of weights, w
 module _ (law : ℕ → List ℕ) (w : ℕ) (same : (t : ℕ) → sum (law t) ≡ w) where
+  -- the product over n periods is a power
   pub totals_of-laws_from : (t n : ℕ) → totals_of (laws_from law t n) ≡ w ^ n
   totals_of-laws_from t zero = sym (pow-zero w)
   totals_of-laws_from t (suc n) = ap (λ k. k * totals_of (laws_from law (suc t) n)) (same t) ∙ ap (λ k. w * k) (totals_of-laws_from (suc t) n) ∙ Z.pow_first w n

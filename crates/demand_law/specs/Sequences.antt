@@ -26,7 +26,7 @@ totals_of [] = 1
 totals_of (law ∷ laws) = sum law * totals_of laws
 
 -- ---- lists of laws
--- the law of a place in a list; a list of one law has that law at every place
+-- the law of a place in a list, and past its end the first; so a list of one law has that law at every place
 abbrev pub law_at : List (List ℕ) → ℕ → List ℕ
 law_at laws place = slice_index_or laws place (slice_index_or laws 0 [])
 
@@ -82,6 +82,7 @@ sequence_weight [] ds = 1
 sequence_weight (law ∷ laws) [] = 1
 sequence_weight (law ∷ laws) (d ∷ ds) = slice_index law d * sequence_weight laws ds
 
+-- the sum of a list
 abbrev pub sum_ℤ : List ℤ → ℤ
 sum_ℤ [] = pos 0
 sum_ℤ (x ∷ xs) = x +ℤ sum_ℤ xs

@@ -6,22 +6,27 @@ use Rattle.std.specs.Int.Signed.{≤ℤ_refl}
 use Rattle.demand_law.specs.Law.{weighted}
 use Rattle.demand_law.specs.Integers.{mul_add, mul_assoc, mul_comm, mul_sum, mul_zero, weight_mono, add_le, add_assoc, zero_add}
 
+-- one number before others
 pub sum-cons : (x : ℕ) (xs : List ℕ) → sum (x ∷ xs) ≡ x + sum xs
 sum-cons x xs = sum_by-cons (λ y. y) x xs
 
+-- equal functions have equal sums
 pub weighted-ext : (ws : List ℕ) (f g : ℕ → ℤ) → ((d : ℕ) → f d ≡ g d) → weighted ws f ≡ weighted ws g
 weighted-ext ws f g h = λ i. weighted ws (λ d. h d i)
 
+-- a sum of functions
 pub weighted-add : (ws : List ℕ) (f g : ℕ → ℤ) → weighted ws (λ d. f d +ℤ g d) ≡ weighted ws f +ℤ weighted ws g
 weighted-add [] f g = refl
 weighted-add (w ∷ ws) f g =
     omega (arith, ints, mul_add (pos w) (f 0) (g 0), weighted-add ws (λ d. f (suc d)) (λ d. g (suc d)))
 
+-- a factor comes out at the left
 pub weighted-scale : (c : ℤ) (ws : List ℕ) (f : ℕ → ℤ) → weighted ws (λ d. c *ℤ f d) ≡ c *ℤ weighted ws f
 weighted-scale c [] f = omega (arith, ints)
 weighted-scale c (w ∷ ws) f =
     omega (arith, ints, mul_add c (pos w *ℤ f 0) (weighted ws (λ d. f (suc d))), weighted-scale c ws (λ d. f (suc d)), mul_assoc c (pos w) (f 0), mul_assoc (pos w) c (f 0), ap (λ z. z *ℤ f 0) (mul_comm c (pos w)))
 
+-- a function that is nowhere greater, on the demands of the law, has no greater sum
 pub weighted-mono : (ws : List ℕ) (f g : ℕ → ℤ) → ((d : ℕ) → d < length ws → f d ≤ℤ g d) → weighted ws f ≤ℤ weighted ws g
 weighted-mono [] f g h = ≤ℤ_refl (pos 0)
 weighted-mono (w ∷ ws) f g h =
@@ -32,6 +37,7 @@ pub weighted-const : (ws : List ℕ) (c : ℤ) → weighted ws (λ d. c) ≡ pos
 weighted-const [] c = omega (arith, ints)
 weighted-const (w ∷ ws) c = ap (λ z. pos w *ℤ c +ℤ z) (weighted-const ws c) ∙ sym (mul_sum w (sum ws) c) ∙ ap (λ k. pos k *ℤ c) (sym (sum-cons w ws))
 
+-- nothing adds up to nothing
 pub weighted-zero : (ws : List ℕ) → weighted ws (λ d. pos 0) ≡ pos 0
 weighted-zero ws = weighted-const ws (pos 0) ∙ mul_zero (pos (sum ws))
 
@@ -45,15 +51,18 @@ weighted_more ws i f lt = rw add-one (more ws i f lt)
     more (w ∷ ws) (suc i) f lt = omega (arith, ints, more ws i (λ d. f (suc d)) (omega arith))
 
 -- ---- linearity
+-- functions that are equal on the demands of the law have equal sums
 pub weighted-ext_within : (ws : List ℕ) (f g : ℕ → ℤ) → ((d : ℕ) → d < length ws → f d ≡ g d) → weighted ws f ≡ weighted ws g
 weighted-ext_within [] f g h = refl
 weighted-ext_within (w ∷ ws) f g h =
     ap (λ z. pos w *ℤ z +ℤ weighted ws (λ d. f (suc d))) (h 0 (omega arith))
     ∙ ap (λ z. pos w *ℤ g 0 +ℤ z) (weighted-ext_within ws (λ d. f (suc d)) (λ d. g (suc d)) (λ d lt. h (suc d) (omega arith)))
 
+-- a factor comes out at the right
 pub weighted-scale_right : (c : ℤ) (ws : List ℕ) (f : ℕ → ℤ) → weighted ws (λ d. f d *ℤ c) ≡ weighted ws f *ℤ c
 weighted-scale_right c ws f = weighted-ext ws _ _ (λ d. mul_comm (f d) c) ∙ weighted-scale c ws f ∙ mul_comm c (weighted ws f)
 
+-- a difference of functions
 pub weighted-sub : (ws : List ℕ) (f g : ℕ → ℤ) → weighted ws (λ d. f d -ℤ g d) ≡ weighted ws f -ℤ weighted ws g
 weighted-sub ws f g =
     let whole : weighted ws f ≡ weighted ws (λ d. f d -ℤ g d) +ℤ weighted ws g = weighted-ext ws _ _ (λ d. parts (f d) (g d)) ∙ weighted-add ws (λ d. f d -ℤ g d) g in
@@ -86,6 +95,7 @@ weighted_most ws f c h = subst (λ (z : ℤ). weighted ws f ≤ℤ z) (weighted-
 pub weighted_least : (ws : List ℕ) (f : ℕ → ℤ) (c : ℤ) → ((d : ℕ) → d < length ws → c ≤ℤ f d) → (pos (sum ws) *ℤ c) ≤ℤ weighted ws f
 weighted_least ws f c h = subst (λ (z : ℤ). z ≤ℤ weighted ws f) (weighted-const ws c) (weighted-mono ws (λ d. c) f h)
 
+-- no value below 0, no sum below 0
 pub weighted_nonnegative : (ws : List ℕ) (f : ℕ → ℤ) → ((d : ℕ) → d < length ws → pos 0 ≤ℤ f d) → pos 0 ≤ℤ weighted ws f
 weighted_nonnegative ws f h = subst (λ (z : ℤ). z ≤ℤ weighted ws f) (weighted-zero ws) (weighted-mono ws (λ d. pos 0) f h)
 

@@ -70,9 +70,9 @@ fn convolve_into(first: &[u128], second: &[u128], sums: &mut [u128])
     }
 }
 
-/// The law of the sum of two independent demands.
+/// The law of the sum of two independent demands. `Width` where the product of the sums of weights passes 2^120.
 ///
-/// It takes one multiplication for each pair of a demand of the one and a demand of the other.
+/// It takes at most one multiplication for each pair of a demand of the one and a demand of the other.
 pub fn convolve(alloc: Global, a: &Law, b: &Law) -> Result<Law, SumErr>
     requires { greatest_of a.now + greatest_of b.now ≤ 4000000000 }
     ensures is_sum { IfOk result (λ law. IsSumOf law (a.now ∷ b.now ∷ [])) }
@@ -172,7 +172,7 @@ fn sum_into(laws: &[Law], from: usize, count: usize, sums: &mut [u128], next: &m
 }
 
 /// The law of the sum of independent demands, one for each of `count` places from `from` on. A list of one law has that
-/// law at every place.
+/// law at every place. `Width` where the product of the sums of weights passes 2^120.
 ///
 /// The laws are convolved one after another, with room for two laws of the sum.
 pub fn lead_sum(alloc: Global, laws: &[Law], from: usize, count: usize) -> Result<Law, SumErr>
@@ -195,8 +195,8 @@ pub fn lead_sum(alloc: Global, laws: &[Law], from: usize, count: usize) -> Resul
     Ok(Law::from_weights(sums))
 }
 
-/// Writes the weights of the law that `lead_sum` gives into the first places of `sums`, and says how many they are. It
-/// takes no memory. What stands in the other places afterwards is left open.
+/// Writes the weights of the law that `lead_sum` gives into the first places of `sums`, and says how many they are. The
+/// other places are room to work in, and what stands there afterwards is left open. It takes no memory.
 pub fn lead_into(laws: &[Law], from: usize, count: usize, sums: &mut [u128]) -> usize
     requires some { 1 ≤ count }
     requires serves { Serves laws.now from count }
@@ -231,20 +231,19 @@ mod tests {
 
     #[test]
     fn three_dice(rt: HostRuntime) -> Result<(), Fail> {
-        let die = Law::from_points(
+        let dice = [Law::from_points(
             rt.alloc(),
             &[(1, 1), (2, 1), (3, 1), (4, 1), (5, 1), (6, 1)],
-        )?;
-        let total = lead_sum(rt.alloc(), &[die], 7, 3)?;
-        assert_eq!(rt; total.greatest(), 18);
-        assert_eq!(rt; total.total(), 216);
-        assert_eq!(rt;
-            total.weights(),
-            [
-                0, 0, 0, 1, 3, 6, 10, 15, 21, 25, 27, 27, 25, 21, 15, 10, 6, 3, 1
-            ]
-            .as_slice()
-        );
+        )?];
+        let totals = [
+            0, 0, 0, 1, 3, 6, 10, 15, 21, 25, 27, 27, 25, 21, 15, 10, 6, 3, 1,
+        ];
+        let sum = lead_sum(rt.alloc(), &dice, 7, 3)?;
+        assert_eq!(rt; sum.weights(), totals.as_slice());
+        let mut sums = [9; 38];
+        let width = lead_into(&dice, 7, 3, &mut sums);
+        assert_eq!(rt; width, 19);
+        assert_eq!(rt; &sums[..19], totals.as_slice());
         Ok(())
     }
 

@@ -1,5 +1,5 @@
 -- The newsvendor of a form.
-use Rattle.std.specs.Prelude.{◌≡◌, Option, Some}
+use Rattle.std.specs.Prelude.{◌≡◌, Some}
 use Rattle.serde_json.specs.Data.{Data}
 use Rattle.newsvendor.specs.Item.{NewsvendorItem}
 use Rattle.demand_law.specs.Points.{points_law}

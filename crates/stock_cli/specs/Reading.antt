@@ -1,5 +1,5 @@
 -- What an instance text says.
-use Rattle.std.specs.Prelude.{◌≡◌, ◌⊎◌, ℕ, ◌+◌, ◌&&◌, ◌==◌, List, [], ◌∷◌, codes, Bool, true, false, if◌then◌else◌, nat_le, Option, Some, None, option_map, option_and_then, is_none}
+use Rattle.std.specs.Prelude.{◌≡◌, ◌⊎◌, ℕ, ◌+◌, ◌&&◌, ◌==◌, List, [], ◌∷◌, codes, Bool, false, if◌then◌else◌, nat_le, Option, Some, None, option_map, option_and_then, is_none}
 use Rattle.std.specs.Str.{is_utf8, bytes_eq}
 use Rattle.serde_json.specs.Data.{Data, null, boolean, number, string, array, object, Items, no_items, item}
 use Rattle.serde_json.specs.Events.{items_len, members_len}

@@ -1,5 +1,5 @@
 -- The report of `solve`, and what it claims.
-use Rattle.std.specs.Prelude.{◌≡◌, ℕ, ◌++◌, List, codes, decimal, length, sum, Option, Some}
+use Rattle.std.specs.Prelude.{◌≡◌, ℕ, ◌++◌, List, codes, decimal, length, sum, Some}
 use Rattle.serde_json.specs.Data.{Data}
 use Rattle.fraction128.specs.Printed.{quotient_text}
 use Rattle.demand_law.specs.Points.{points_law}

@@ -1,4 +1,4 @@
-use Rattle.std.proofs.Common.{sym, ◌∙◌, arith}
+use Rattle.std.proofs.Common.{arith}
 use Rattle.serde_json.proofs.Views.{view-Array, items_len-items_view}
 use Rattle.stock_cli.proofs.reading.count_items.Goals as goal
 

@@ -1,4 +1,4 @@
-use Rattle.std.proofs.Common.{sym, ◌∙◌, arith}
+use Rattle.std.proofs.Common.{arith}
 use Rattle.serde_json.proofs.Views.{view-Object, members_len-members_view}
 use Rattle.stock_cli.proofs.reading.count_keys.Goals as goal
 

@@ -1,4 +1,4 @@
-use Rattle.std.proofs.Common.{◌≡◌, ℕ, sym, ◌∙◌, ap, refl, arith, option_and_then, true}
+use Rattle.std.proofs.Common.{◌≡◌, sym, ◌∙◌, ap, refl, arith, option_and_then, true}
 use Rattle.demand_law.specs.Points.{points_fault, points_law}
 use Rattle.serde_json.specs.View.{view}
 use Rattle.stock_cli.specs.Reading.{demand_of, is_newsvendor}
