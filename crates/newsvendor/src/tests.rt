@@ -1,10 +1,12 @@
 // Newsvendors that were worked by hand.
 use crate::{Newsvendor, cost_at, solve_newsvendor};
-use demand_law::{Law, LawErr};
+use demand_law::Law;
 use fraction128::Frac;
+use std::alloc::Global;
 use std::test::Fail;
 
 // A newsvendor, its least level and that level's cost times the sum of the weights.
+#[derive(Clone, Copy)]
 struct Solved<'a> {
     holding: u64,
     stockout: u64,
@@ -14,21 +16,23 @@ struct Solved<'a> {
 }
 
 fn newsvendor(
-    rt: &HostRuntime,
+    alloc: Global,
     holding: u64,
     stockout: u64,
     points: &[(u32, u32)],
 ) -> Result<Newsvendor, Fail> {
-    assert!(rt; 0 < holding && holding <= 1_000_000 && stockout <= 1_000_000);
-    match Law::from_points(rt.alloc(), points) {
-        Ok(law) => Ok(Newsvendor {
-            holding,
-            stockout,
-            law,
-        }),
-        Err(LawErr::Bad(_)) => Err(Fail::from("no law")),
-        Err(LawErr::Memory) => Err(Fail::from("no memory")),
+    if holding == 0 || holding > 1_000_000 {
+        return Err(Fail::from("the holding rate is out of range"));
     }
+    if stockout > 1_000_000 {
+        return Err(Fail::from("the stockout rate is out of range"));
+    }
+    let law = Law::from_points(alloc, points)?;
+    Ok(Newsvendor {
+        holding,
+        stockout,
+        law,
+    })
 }
 
 #[test]
@@ -66,7 +70,7 @@ fn least_levels(rt: HostRuntime) -> Result<(), Fail> {
         },
     ];
     for row in &rows {
-        let item = newsvendor(&rt, row.holding, row.stockout, row.points)?;
+        let item = newsvendor(rt.alloc(), row.holding, row.stockout, row.points)?;
         let cert = solve_newsvendor(&item);
         assert_eq!(rt; cert.q, row.level);
         assert_eq!(rt; cert.cost, row.cost);
@@ -76,7 +80,7 @@ fn least_levels(rt: HostRuntime) -> Result<(), Fail> {
 
 #[test]
 fn costs_of_levels(rt: HostRuntime) -> Result<(), Fail> {
-    let item = newsvendor(&rt, 1, 3, &[(0, 1), (1, 1), (2, 1), (3, 1)])?;
+    let item = newsvendor(rt.alloc(), 1, 3, &[(0, 1), (1, 1), (2, 1), (3, 1)])?;
     for (level, num, den) in [
         (0, 9, 2),
         (1, 5, 2),
