@@ -1,5 +1,9 @@
--- The exit code of each status.
+-- What each status means.
 use Rattle.std.specs.Prelude.{ℕ}
+use Rattle.instance_json.specs.declared.fault.InstanceFault.{InstanceFault}
+use Rattle.instance_json.specs.declared.fault.InstanceFault.TheVariants as instance
+use Rattle.report_text.specs.declared.faults.Fault.{Fault}
+use Rattle.report_text.specs.declared.faults.Fault.TheVariants as fault
 use Rattle.stock_cli.specs.declared.status.Status.{Status}
 use Rattle.stock_cli.specs.declared.status.Status.TheVariants.{Done, Rejected, Words, Input, ReadFault, WriteFault, Width, Memory, House}
 
@@ -21,10 +25,9 @@ IsDecided WriteFault = ⊥
 IsDecided Memory = ⊥
 IsDecided _ = Unit {0}
 
--- `solve` on a newsvendor can end so
+-- a command that is built can end so
 abbrev pub IsGiven : Status → Type 0
 IsGiven Rejected = ⊥
-IsGiven Width = ⊥
 IsGiven House = ⊥
 IsGiven _ = Unit {0}
 
@@ -33,4 +36,20 @@ abbrev pub WritesNothing : Status → Type 0
 WritesNothing Words = Unit {0}
 WritesNothing Input = Unit {0}
 WritesNothing ReadFault = Unit {0}
+WritesNothing Width = Unit {0}
 WritesNothing _ = ⊥
+
+-- the status of a run that is refused for an instance's fault
+abbrev pub instance_status : InstanceFault → Status
+instance_status instance.Width = Width
+instance_status _ = Input
+
+-- the status of a run that is refused for a fault
+abbrev pub status_of : Fault → Status
+status_of fault.NotBuilt = Words
+status_of fault.TooLong = Input
+status_of (fault.Instance f) = instance_status f
+status_of (fault.NotThisCommand kind) = Input
+status_of (fault.ReadFault name) = ReadFault
+status_of fault.WriteFault = WriteFault
+status_of fault.Memory = Memory

@@ -1,8 +1,8 @@
 // The report of `solve`.
 ghost use Rattle.std.specs.Prelude.{◌≡◌, IfOk, length};
-ghost use Rattle.newsvendor.specs.Least.{IsFirstLeast, first_least_upto};
-ghost use Rattle.newsvendor.specs.Level.{cost_of};
-ghost use Rattle.stock_cli.specs.Report.{report_for};
+ghost use Rattle.newsvendor.specs.Least.{first_least_upto};
+ghost use Rattle.newsvendor.specs.Level.{cost_of, LeastLevel};
+ghost use Rattle.stock_cli.specs.Report.{report_of};
 
 use fraction128::{Memory, Text};
 use newsvendor::{Newsvendor, cost_at, solve_newsvendor};
@@ -10,8 +10,8 @@ use std::alloc::Global;
 
 /// The least order-up-to level of least cost and its cost, as text.
 pub fn report(alloc: Global, item: &Newsvendor) -> Result<Text, Memory>
-    ensures text { IfOk result (λ text. text ≡ report_for item.now.holding item.now.stockout item.now.law) }
-    ensures least { IsFirstLeast (cost_of item.now) (first_least_upto (cost_of item.now) (length item.now.law)) }
+    ensures text { IfOk result (λ text. text ≡ report_of item.now) }
+    ensures least { LeastLevel item.now (first_least_upto (cost_of item.now) (length item.now.law)) }
 {
     let cert = solve_newsvendor(item);
     let cost = cost_at(item, cert.q);

@@ -1,6 +1,9 @@
 // How a run ends.
 ghost use Rattle.std.specs.Prelude.{◌≡◌};
-ghost use Rattle.stock_cli.specs.Status.{code_of};
+ghost use Rattle.stock_cli.specs.Status.{code_of, status_of};
+
+use instance_json::InstanceFault;
+use report_text::Fault;
 
 /// How a run ended.
 #[derive(Clone, Copy, Debug, PartialEq, Eq)]
@@ -41,5 +44,21 @@ impl Status {
             Status::Memory => 7,
             Status::House => 8,
         }
+    }
+}
+
+/// The status of a run that is refused for this fault.
+pub fn status_for(fault: &Fault) -> Status
+    ensures { result ≡ status_of fault.now }
+{
+    match fault {
+        Fault::NotBuilt => Status::Words,
+        Fault::TooLong => Status::Input,
+        Fault::Instance(InstanceFault::Width) => Status::Width,
+        Fault::Instance(_) => Status::Input,
+        Fault::NotThisCommand(_) => Status::Input,
+        Fault::ReadFault(_) => Status::ReadFault,
+        Fault::WriteFault => Status::WriteFault,
+        Fault::Memory => Status::Memory,
     }
 }
