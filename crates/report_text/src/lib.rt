@@ -1,0 +1,7 @@
+//! What `stock` prints of its instances, and the messages of its refusals.
+#![tactic(auto)]
+
+mod faults;
+mod pieces;
+
+pub use faults::{Fault, fault_text};
