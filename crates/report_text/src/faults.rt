@@ -138,7 +138,11 @@ fn kind_name(kind: Kind) -> &'static str
 fn push_wrong_kind(out: &mut Text, kind: Kind) -> Result<(), Memory>
     ensures { OnOk result (out.new ≡ out.old ++ fault_words (Fault.NotThisCommand kind)) }
 {
-    push_both(out, "this command does not take kind ", kind_name(kind).as_bytes())
+    push_both(
+        out,
+        "this command does not take kind ",
+        kind_name(kind).as_bytes(),
+    )
 }
 
 // Appends that the input of this name failed.

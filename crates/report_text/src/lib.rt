@@ -3,5 +3,7 @@
 
 mod faults;
 mod pieces;
+#[cfg(test)]
+mod tests;
 
 pub use faults::{Fault, fault_text};
