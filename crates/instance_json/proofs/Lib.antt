@@ -2,3 +2,5 @@ pub mod Listed
 pub mod Told
 pub mod Named
 pub mod Chained
+pub mod Made
+pub mod LawSum
