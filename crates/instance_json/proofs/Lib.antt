@@ -4,3 +4,4 @@ pub mod Named
 pub mod Chained
 pub mod Made
 pub mod LawSum
+pub mod Scaled
