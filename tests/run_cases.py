@@ -3,8 +3,8 @@
 
     python3 tests/run_cases.py [PROGRAM] [PART OF A NAME ..]
 
-PROGRAM is ./stock at the top of the repository where none is given. A case is one JSON file whose name says what
-it shows:
+PROGRAM is ./stock at the top of the repository where none is given; that script builds the program first where it
+isn't built yet. A case is one JSON file whose name says what it shows:
 
   shows         one line on what the case is there for
   args          the words
@@ -83,6 +83,8 @@ def faults_of(program, case):
 def main():
     words = sys.argv[1:]
     program = os.path.abspath(words[0] if words else os.path.join(HERE, "..", "stock"))
+    # One run without words and without a limit of time, for what has to be built first.
+    subprocess.run([program], stdin=subprocess.DEVNULL, stdout=subprocess.DEVNULL, stderr=subprocess.DEVNULL)
     passed = failed = 0
     for file_name in sorted(os.listdir(CASES)):
         name, ending = os.path.splitext(file_name)

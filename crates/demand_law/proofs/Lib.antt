@@ -1,1 +1,3 @@
 pub mod PointsPlaced
+pub mod Convolved
+pub mod Leads

@@ -1,10 +1,7 @@
 -- What the weights stand for, after some of the points.
-use Rattle.std.proofs.Common.{◌≡◌, ◌≢◌, ℕ, zero, suc, ◌+◌, ◌-◌, ◌*◌, ◌<◌, ◌≤◌, max, List, [], ◌∷◌, ◌++◌, length, get_or, sum, take, drop, map, nat_eq, nat_lt, refl, sym, ◌∙◌, ap, arith, cond, Bool, true, false, Some, None, ◌⊎◌, subst}
-use Rattle.std.specs.declared.option.Option.{Option}
-use Rattle.std.specs.List.{range_with_len}
+use Rattle.std.proofs.Common.{◌≡◌, ℕ, ◌+◌, ◌-◌, ◌<◌, ◌≤◌, max, List, [], ◌∷◌, ◌++◌, length, get_or, sum, take, drop, nat_eq, nat_lt, refl, sym, ◌∙◌, ap, arith, cond, Bool, true, false, Some, None, subst}
 use Rattle.std.proofs.lemmas.List.FromFn.{fill_by_all}
 use Rattle.std.proofs.lemmas.List.{take_more, drop_more, take_all, drop_all}
-use Rattle.std.proofs.lemmas.Grind.{common_steps}
 use Rattle.demand_law.specs.declared.law.LawFault.{LawFault}
 use Rattle.demand_law.specs.declared.law.LawFault.TheVariants.{Empty, Repeated, ZeroWeight, TooLarge, Disordered, NotMultiple}
 use Rattle.demand_law.specs.declared.law.LawErr.{LawErr}

@@ -1,5 +1,5 @@
 -- Demand laws. A law is the list of its weights, from demand 0 up.
-use Rattle.std.specs.Prelude.{◌≡◌, ℕ, suc, ◌+◌, ◌-◌, ◌^◌, ◌<◌, ◌≤◌, ℤ, pos, ◌+ℤ◌, ◌*ℤ◌, List, [], ◌∷◌, length, slice_index, sum, take}
+use Rattle.std.specs.Prelude.{ℕ, suc, ◌+◌, ◌-◌, ◌^◌, ◌<◌, ◌≤◌, ℤ, pos, ◌+ℤ◌, ◌*ℤ◌, List, [], ◌∷◌, length, slice_index, sum, take}
 
 -- the greatest demand has a weight above 0, and the weights add up to at most 2^120
 pub record IsLaw (ws : List ℕ) : Type 0 where

@@ -3,3 +3,8 @@ pub mod Points
 pub mod Placed
 pub mod Integers
 pub mod WeightedSums
+pub mod Sequences
+pub mod SequenceSums
+pub mod LawSums
+pub mod ListedSums
+pub mod ServedLaws

@@ -3,5 +3,7 @@
 
 mod law;
 mod points;
+mod sums;
 
 pub use law::{Law, LawErr, LawFault};
+pub use sums::{SumErr, convolve, lead_into, lead_sum};

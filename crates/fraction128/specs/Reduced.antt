@@ -1,12 +1,12 @@
 -- Fractions in lowest terms.
-use Rattle.std.specs.Int.{◌∣◌}
-use Rattle.std.specs.Prelude.{◌≡◌, ℕ, ◌<◌, ◌/◌, ◌%◌, ◌&&◌, zero, suc, ℤ, pos, negsuc, if◌then◌else◌, ◌==◌, unsigned_abs}
+use Rattle.std.specs.Prelude.{ℕ, ◌<◌, ◌/◌, ◌%◌, ◌&&◌, zero, suc, ℤ, pos, negsuc, if◌then◌else◌, ◌==◌, unsigned_abs}
 use lib.IntN.{neg_ℤ}
+use Rattle.fraction128.specs.Divisors.{AreCoprime}
 
 -- the denominator is above 0, and no number but 1 divides both
 pub record IsReduced (num : ℤ) (den : ℕ) : Type 0 where
   pub positive : 0 < den
-  pub lowest : (d : ℕ) → d ∣ unsigned_abs num → d ∣ den → d ≡ 1
+  pub lowest : AreCoprime (unsigned_abs num) den
 
 -- the greatest number from 1 to n that divides both, 0 where there is none
 unfoldable pub common_divisor_upto : ℕ → ℕ → ℕ → ℕ

@@ -1,47 +1,21 @@
 // Reduced fractions.
-ghost use Rattle.std.specs.Prelude.{◌≡◌, ℕ, ◌*◌, ◌/◌, ◌<◌, ◌≤◌, ◌++◌, OnOk, OnErr, pos, ◌*ℤ◌, ◌^◌};
+ghost use Rattle.std.specs.Prelude.{◌≡◌, ◌<◌, ◌≤◌, ◌^◌, ◌++◌, OnOk, OnErr, pos, ◌*ℤ◌};
 ghost use Rattle.std.specs.Int.RustNames.{unsigned_abs};
 ghost use lib.IntN.{neg_ℤ};
-ghost use Rattle.std.specs.Int.{IsGcd, ◌∣◌};
-ghost use Rattle.fraction128.specs.Reduced.{IsReduced, gcd_of, lowest_num, lowest_den};
+ghost use Rattle.fraction128.specs.Reduced.{IsReduced, lowest_num, lowest_den};
 ghost use Rattle.fraction128.specs.Printed.{frac_text};
 
+use crate::divisor::lowest;
 use crate::text::{Memory, Text};
 
-/// A fraction in lowest terms.
-#[derive(Clone, Copy, Debug)]
+/// A fraction in lowest terms, with a denominator above 0; zero is 0/1.
+///
+/// Each value has one such fraction, so two are equal exactly where their values are.
+#[derive(Clone, Copy, Debug, PartialEq, Eq)]
 pub struct Frac {
     pub num: i128,
     pub den: u128,
-    ghost reduced: { IsReduced num den },
-}
-
-/// The greatest common divisor; that of 0 and 0 is 0.
-pub fn gcd(a: u128, b: u128) -> u128
-    ensures { IsGcd a b result }
-{
-    let mut x = a;
-    let mut y = b;
-    while y != 0 {
-        let rest = x % y;
-        x = y;
-        y = rest;
-    }
-    x
-}
-
-// The quotient by the greatest common divisor, of both.
-fn lowest(size: u128, den: u128) -> (u128, u128)
-    requires { 0 < den }
-    ensures top { result.0 ≡ size / gcd_of size den }
-    ensures bottom { result.1 ≡ den / gcd_of size den }
-    ensures same { result.0 * den ≡ size * result.1 }
-    ensures no_larger { result.0 ≤ size }
-    ensures positive { 0 < result.1 }
-    ensures lowest { (d : ℕ) → d ∣ result.0 → d ∣ result.1 → d ≡ 1 }
-{
-    let common = gcd(size, den);
-    (size / common, den / common)
+    pub ghost reduced: { IsReduced num den },
 }
 
 // The number below 0 of this size.
@@ -54,6 +28,7 @@ fn below_zero(size: u128) -> i128
 }
 
 impl Frac {
+    /// `num`/`den` in lowest terms.
     pub fn new(num: i128, den: u128) -> Frac
         requires { 0 < den }
         ensures value { (result.num *ℤ pos den) ≡ (num *ℤ pos result.den) }
@@ -75,6 +50,7 @@ impl Frac {
         }
     }
 
+    /// The whole number `num`, as `num`/1.
     pub fn whole(num: i128) -> Frac
         ensures num { result.num ≡ num }
         ensures den { result.den ≡ 1 }
@@ -84,7 +60,8 @@ impl Frac {
 }
 
 impl Frac {
-    /// Appends the fraction in decimal.
+    /// Appends `num`, or `num/den` where `den` isn't 1, in decimal.
+    /// Where memory is refused, the text is as before.
     pub fn text_into(&self, out: &mut Text) -> Result<(), Memory>
         ensures ok { OnOk result (out.new ≡ out.old ++ frac_text self.now.num self.now.den) }
         ensures err { OnErr result (out.new ≡ out.old) }

@@ -1,6 +1,5 @@
-use Rattle.std.proofs.Common.{◌≡◌, ℕ, ◌<◌, ◌≤◌, List, sum, length, arith, ◌∙◌, sym}
-use Rattle.demand_law.specs.Points.{total_in}
-use Rattle.demand_law.proofs.PointsPlaced.{State, step_at, no_fault_at, fault_at, no_fault, large_total, is_law, is_law_of, state_end, fault_end}
+use Rattle.std.proofs.Common.{◌<◌, length, arith, ◌∙◌}
+use Rattle.demand_law.proofs.PointsPlaced.{step_at, no_fault_at, is_law, is_law_of, state_end}
 use Rattle.demand_law.proofs.law.Law.from_points.Goals as goal
 
 pub loop-demand-preserved : goal.loop-demand-preserved

@@ -1,4 +1,4 @@
-use Rattle.std.proofs.Common.{◌≡◌, ℕ, ◌*◌, ◌^◌, ◌≤◌, sum, [], take, drop}
+use Rattle.std.proofs.Common.{◌≡◌, ◌*◌, ◌^◌, ◌≤◌, sum, [], take, drop}
 use Rattle.demand_law.specs.Points.{first_fault}
 use Rattle.demand_law.proofs.PointsPlaced.{State}
 use Rattle.demand_law.proofs.law.Law.from_points.Given as goal
