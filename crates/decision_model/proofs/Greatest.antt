@@ -1,5 +1,5 @@
 -- The greatest demand of the first laws of a list.
-use Rattle.std.proofs.Common.{◌≡◌, ℕ, zero, suc, ◌+◌, ◌<◌, max, List, [], ◌∷◌, length, get_or, take, arith, add-one, refl}
+use Rattle.std.proofs.Common.{◌≡◌, ℕ, zero, suc, ◌+◌, ◌<◌, max, List, [], ◌∷◌, length, get_or, take, arith, add-one}
 use Rattle.demand_law.specs.Law.{greatest_of}
 use Rattle.demand_law.specs.Sequences.{greatest_in}
 

@@ -1,5 +1,5 @@
 -- The average kind: ranges, demand, the grid of positions and the width number.
-use Rattle.std.specs.Prelude.{ℕ, ◌+◌, ◌-◌, ◌*◌, ◌^◌, ◌<◌, ◌≤◌, List, slice_index, sum, ℤ, pos, ◌-ℤ◌, ◌≤ℤ◌, IsTrue}
+use Rattle.std.specs.Prelude.{ℕ, ◌+◌, ◌-◌, ◌*◌, ◌^◌, ◌<◌, ◌≤◌, List, slice_index, sum, pos, ◌-ℤ◌, ◌≤ℤ◌, IsTrue}
 use Rattle.demand_law.specs.Law.{greatest_of}
 use Rattle.decision_model.specs.declared.instance.Average.{Average}
 use Rattle.decision_model.specs.Rates.{IsRate}

@@ -1,7 +1,7 @@
 -- What follows from the rules on an instance's laws.
-use Rattle.std.proofs.Common.{◌≡◌, ◌⊎◌, ℕ, ◌+◌, ◌-◌, ◌*◌, ◌^◌, ◌<◌, ◌≤◌, List, [], ◌∷◌, length, sum, slice_index, All, inl, inr, arith, subst}
+use Rattle.std.proofs.Common.{◌≡◌, ◌⊎◌, ℕ, ◌+◌, ◌-◌, ◌^◌, ◌<◌, ◌≤◌, List, [], ◌∷◌, length, sum, All, inl, inr, arith}
 use Rattle.std.proofs.lemmas.List.Sums.{get_or-le-sum_by}
-use Rattle.demand_law.specs.Law.{IsLaw, greatest_of}
+use Rattle.demand_law.specs.Law.{IsLaw}
 use Rattle.demand_law.specs.Sequences.{Serves, laws_at, totals_of, greatest_in}
 use Rattle.demand_law.specs.ServedLaws.{greatest_in_most, totals_of-laws_at}
 use Rattle.decision_model.specs.DemandLaws.{IsDemandLaw, common_total, AreDemandLaws}

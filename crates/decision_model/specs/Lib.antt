@@ -7,4 +7,5 @@ pub mod Lots
 pub mod Finite
 pub mod Average
 pub mod Serial
+pub mod WidthFacts
 pub mod Valid

@@ -1,5 +1,5 @@
 -- Lot sizing: ranges, and speculative costs.
-use Rattle.std.specs.Prelude.{◌≡◌, ℕ, ◌+◌, ◌-◌, ◌<◌, ◌≤◌, List, length, slice_index, All, Bool, nat_lt, Option, find}
+use Rattle.std.specs.Prelude.{◌≡◌, ℕ, ◌+◌, ◌-◌, ◌<◌, ◌≤◌, length, slice_index, All, Bool, nat_lt, Option, find}
 use Rattle.std.specs.List.{range_with_len}
 use Rattle.decision_model.specs.declared.instance.LotSize.{LotSize}
 use Rattle.decision_model.specs.Rates.{IsRate}

@@ -1,8 +1,6 @@
 use Rattle.std.proofs.Common.{◌≡◌, ℕ, ◌+◌, ◌-◌, ◌<◌, ◌≤◌, true, false, nat_lt, length, Some, slice_index, ap, sym, ◌∙◌, arith, rules}
 use Rattle.std.proofs.lemmas.Bool.Decides.{nat_tests}
-use Rattle.std.proofs.lemmas.List.{get_or_read}
-use Rattle.decision_model.specs.declared.instance.LotSize.{LotSize}
-use Rattle.decision_model.specs.Lots.{is_speculative, speculative_period_of, CanWait}
+use Rattle.decision_model.specs.Lots.{is_speculative, speculative_period_of}
 use Rattle.decision_model.proofs.Searched.{find-none, find-first}
 use Rattle.decision_model.proofs.rules.speculative_period.Goals as goal
 

@@ -1,4 +1,4 @@
-use Rattle.std.proofs.Common.{◌+◌, arith}
+use Rattle.std.proofs.Common.{arith}
 use Rattle.decision_model.specs.LawFacts.{greatest_in_range}
 use Rattle.decision_model.proofs.instance.Serial.low.Goals as goal
 

@@ -1,4 +1,4 @@
-use Rattle.std.proofs.Common.{◌≡◌, ◌<◌, length, arith}
+use Rattle.std.proofs.Common.{arith}
 use Rattle.std.proofs.lemmas.Grind.{common_steps}
 use Rattle.decision_model.proofs.Greatest.{greatest_in_more}
 use Rattle.decision_model.proofs.lists.Laws.greatest.Goals as goal
