@@ -1,5 +1,5 @@
 -- The average kind: ranges, demand, the grid of positions and the width number.
-use Rattle.std.specs.Prelude.{ℕ, ◌+◌, ◌-◌, ◌*◌, ◌^◌, ◌<◌, ◌≤◌, List, slice_index, sum, pos, ◌-ℤ◌, ◌≤ℤ◌, IsTrue}
+use Rattle.std.specs.Prelude.{ℕ, ◌+◌, ◌-◌, ◌*◌, ◌^◌, ◌<◌, ◌≤◌, List, slice_index, sum, pos, ◌-ℤ◌, ◌≤ℤ◌, IsTrue, Bool, nat_lt, nat_le}
 use Rattle.demand_law.specs.Law.{greatest_of}
 use Rattle.decision_model.specs.declared.instance.Average.{Average}
 use Rattle.decision_model.specs.Rates.{IsRate}
@@ -21,9 +21,15 @@ pub record IsReadableAverage (item : Average) : Type 0 where
 abbrev pub HasDemand : List ℕ → Type 0
 HasDemand law = slice_index law 0 < sum law
 
+abbrev pub has_demand : List ℕ → Bool
+has_demand law = nat_lt (slice_index law 0) (sum law)
+
 -- no demand is above 1
 abbrev pub IsUnitDemand : List ℕ → Type 0
 IsUnitDemand law = greatest_of law ≤ 1
+
+abbrev pub is_unit_demand : List ℕ → Bool
+is_unit_demand law = nat_le (greatest_of law) 1
 
 -- how many positions the grid has
 unfoldable pub average_positions : Average → ℕ

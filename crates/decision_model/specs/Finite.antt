@@ -1,5 +1,5 @@
 -- The finite kind: ranges, the grid of positions and the width number.
-use Rattle.std.specs.Prelude.{ℕ, ◌+◌, ◌-◌, ◌*◌, ◌^◌, ◌≤◌, ℤ, pos, ◌-ℤ◌, ◌≤ℤ◌, IfSome}
+use Rattle.std.specs.Prelude.{ℕ, ◌+◌, ◌-◌, ◌*◌, ◌^◌, ◌≤◌, ℤ, pos, ◌-ℤ◌, ◌≤ℤ◌, IfSome, Bool, nat_le, ◌&&◌}
 use Rattle.demand_law.specs.Sequences.{greatest_in}
 use Rattle.decision_model.specs.declared.instance.Finite.{Finite}
 use Rattle.decision_model.specs.Rates.{IsRate, IsHorizon, IsDiscount}
@@ -40,6 +40,9 @@ finite_positions item = positions_from (finite_low item (item.periods + 1)) item
 pub record FiniteGridFits (item : Finite) : Type 0 where
   pub positions : finite_positions item ≤ 20000
   pub cells : item.periods * finite_positions item ≤ 1000000
+
+abbrev pub finite_grid_fits : Finite → Bool
+finite_grid_fits item = nat_le (finite_positions item) 20000 && nat_le (item.periods * finite_positions item) 1000000
 
 -- the most that a unit can lack: all demand of an order's periods at the lowest position
 abbrev pub finite_most_lacking : Finite → ℕ

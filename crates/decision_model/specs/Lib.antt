@@ -8,4 +8,5 @@ pub mod Finite
 pub mod Average
 pub mod Serial
 pub mod WidthFacts
+pub mod LeadTimes
 pub mod Valid

@@ -1,5 +1,5 @@
 -- The serial kind: ranges, the grid of positions and the width number.
-use Rattle.std.specs.Prelude.{◌≡◌, ℕ, ◌+◌, ◌-◌, ◌*◌, ◌^◌, ◌≤◌, length, sum, slice_index_or, All, ℤ, pos, ◌≤ℤ◌}
+use Rattle.std.specs.Prelude.{◌≡◌, ℕ, ◌+◌, ◌-◌, ◌*◌, ◌^◌, ◌≤◌, length, sum, slice_index_or, All, ℤ, pos, ◌≤ℤ◌, Bool, nat_le, ◌&&◌}
 use Rattle.std.specs.List.{AllAdjacentBelow}
 use Rattle.demand_law.specs.Sequences.{greatest_in}
 use Rattle.decision_model.specs.declared.instance.Serial.{Serial}
@@ -36,6 +36,9 @@ serial_positions item = positions_from (serial_low item (item.periods + 1)) item
 pub record SerialGridFits (item : Serial) : Type 0 where
   pub positions : serial_positions item ≤ 2000
   pub cells : item.periods * length item.holding * serial_positions item ≤ 1000000
+
+abbrev pub serial_grid_fits : Serial → Bool
+serial_grid_fits item = nat_le (serial_positions item) 2000 && nat_le (item.periods * length item.holding * serial_positions item) 1000000
 
 -- a whole number above each cost of a period
 unfoldable pub serial_cost_bound : Serial → ℕ

@@ -1,9 +1,9 @@
 // Grids of positions.
 ghost use Rattle.std.specs.Prelude.{◌≡◌, ◌↔◌, ℕ, ◌+◌, ◌*◌, ◌^◌, ◌≤◌, length, unsigned_abs, IsTrue};
 ghost use Rattle.decision_model.specs.Positions.{above_zero, low_after, positions_from};
-ghost use Rattle.decision_model.specs.Finite.{IsReadableFinite, FiniteGridFits};
-ghost use Rattle.decision_model.specs.Serial.{IsReadableSerial, SerialGridFits};
-ghost use Rattle.decision_model.specs.Valid.{IsReadable, GridFits};
+ghost use Rattle.decision_model.specs.Finite.{IsReadableFinite, FiniteGridFits, finite_grid_fits};
+ghost use Rattle.decision_model.specs.Serial.{IsReadableSerial, SerialGridFits, serial_grid_fits};
+ghost use Rattle.decision_model.specs.Valid.{IsReadable, GridFits, grid_fits};
 
 use crate::instance::{Average, Finite, Instance, Serial};
 
@@ -113,7 +113,8 @@ impl Serial {
 
 fn is_finite_grid_small(item: &Finite) -> bool
     requires { IsReadableFinite item.now }
-    ensures { IsTrue result ↔ FiniteGridFits item.now }
+    ensures meaning { IsTrue result ↔ FiniteGridFits item.now }
+    ensures exact { result ≡ finite_grid_fits item.now }
 {
     let positions = item.positions();
     positions <= MOST_FINITE_POSITIONS && u64::from(item.periods) * positions <= MOST_CELLS
@@ -121,7 +122,8 @@ fn is_finite_grid_small(item: &Finite) -> bool
 
 fn is_serial_grid_small(item: &Serial) -> bool
     requires { IsReadableSerial item.now }
-    ensures { IsTrue result ↔ SerialGridFits item.now }
+    ensures meaning { IsTrue result ↔ SerialGridFits item.now }
+    ensures exact { result ≡ serial_grid_fits item.now }
 {
     let positions = item.positions();
     let rows = u64::from(item.periods) * item.holding.as_slice().len() as u64;
@@ -132,7 +134,8 @@ fn is_serial_grid_small(item: &Serial) -> bool
 /// and serial kinds, and at most 1,000,000 cells of a period, an echelon and a position.
 pub fn grid_fits(item: &Instance) -> bool
     requires { IsReadable item.now }
-    ensures { IsTrue result ↔ GridFits item.now }
+    ensures meaning { IsTrue result ↔ GridFits item.now }
+    ensures exact { result ≡ grid_fits item.now }
 {
     match item {
         Instance::News(_) | Instance::Lots(_) => true,

@@ -1,7 +1,7 @@
 // Rules over several numbers of an instance.
 ghost use Rattle.std.specs.Prelude.{◌≡◌, ◌↔◌, IsTrue, MatchOption};
 ghost use Rattle.decision_model.specs.Lots.{IsReadableLots, speculative_period_of, IsFirstSpeculative, HasNoSpeculation};
-ghost use Rattle.decision_model.specs.Average.{HasDemand, IsUnitDemand};
+ghost use Rattle.decision_model.specs.Average.{HasDemand, has_demand, IsUnitDemand, is_unit_demand};
 
 use crate::instance::{Average, LotSize};
 
@@ -24,14 +24,16 @@ pub fn speculative_period(item: &LotSize) -> Option<u32>
 
 /// Whether some demand above 0 has a weight.
 pub fn has_demand(item: &Average) -> bool
-    ensures { IsTrue result ↔ HasDemand item.now.law }
+    ensures meaning { IsTrue result ↔ HasDemand item.now.law }
+    ensures exact { result ≡ has_demand item.now.law }
 {
     item.law.weight(0) < item.law.total()
 }
 
 /// Whether no demand is above 1.
 pub fn is_unit_demand(item: &Average) -> bool
-    ensures { IsTrue result ↔ IsUnitDemand item.now.law }
+    ensures meaning { IsTrue result ↔ IsUnitDemand item.now.law }
+    ensures exact { result ≡ is_unit_demand item.now.law }
 {
     item.law.greatest() <= 1
 }

@@ -4,7 +4,7 @@ ghost use Rattle.decision_model.specs.Positions.{above_zero};
 ghost use Rattle.decision_model.specs.Finite.{IsReadableFinite, finite_cost_bound, finite_width, IsRegularFinite};
 ghost use Rattle.decision_model.specs.Average.{IsReadableAverage, average_cost_bound, average_width, IsRegularAverage};
 ghost use Rattle.decision_model.specs.Serial.{IsReadableSerial, serial_cost_bound, serial_width, IsRegularSerial};
-ghost use Rattle.decision_model.specs.Valid.{IsRegular, WidthFits};
+ghost use Rattle.decision_model.specs.Valid.{IsRegular, WidthFits, width_fits};
 
 use crate::grid::above_zero;
 use crate::instance::{Average, Finite, Instance, Serial};
@@ -138,7 +138,8 @@ fn is_serial_narrow(item: &Serial) -> bool
 /// Where it is true, the fractions that a policy and its certificate are made of have room in 128 bits.
 pub fn width_ok(item: &Instance) -> bool
     requires { IsRegular item.now }
-    ensures { IsTrue result ↔ WidthFits item.now }
+    ensures meaning { IsTrue result ↔ WidthFits item.now }
+    ensures exact { result ≡ width_fits item.now }
 {
     match item {
         Instance::News(_) | Instance::Lots(_) => true,
