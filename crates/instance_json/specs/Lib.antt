@@ -3,3 +3,10 @@ pub mod Faults
 pub mod Numbers
 pub mod Keys
 pub mod Lots
+pub mod LawTexts
+pub mod Positions
+pub mod Fields
+pub mod News
+pub mod Averages
+pub mod Horizons
+pub mod Serials

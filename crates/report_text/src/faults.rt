@@ -1,0 +1,182 @@
+// The messages of refusals.
+ghost use Rattle.std.specs.Prelude.{◌≡◌, ◌++◌, OnOk, IfOk};
+ghost use Rattle.report_text.specs.Messages.{fault_message, fault_words, instance_words, key_words, place_words, law_words, kind_word};
+
+use crate::pieces::{push_both, push_numbered};
+use decision_model::Kind;
+use demand_law::LawFault;
+use fraction128::{Memory, Text};
+use instance_json::{InstanceFault, Key, KeyList};
+use std::alloc::Global;
+
+/// Why a run doesn't end with its text, as standard error tells it.
+#[derive(Drop)]
+pub enum Fault {
+    /// The command isn't built yet.
+    NotBuilt,
+    /// The input has more bytes than an instance may have.
+    TooLong,
+    /// The input says no instance.
+    Instance(InstanceFault),
+    /// The command doesn't take instances of this kind.
+    NotThisCommand(Kind),
+    /// The input of this name failed; standard input's name is `-`.
+    ReadFault(Text),
+    /// The output failed.
+    WriteFault,
+    /// Memory was refused.
+    Memory,
+}
+
+// Appends the key of a fault, after its object's place where that isn't the instance itself.
+fn push_key(alloc: Global, out: &mut Text, key: &Key) -> Result<(), Memory>
+    ensures { OnOk result (out.new ≡ out.old ++ key_words key.now) }
+{
+    push_place(alloc, out, key.list, key.item)?;
+    out.push(key.name.bytes())
+}
+
+// Appends the place of an object in its list.
+fn push_place(alloc: Global, out: &mut Text, list: KeyList, item: u32) -> Result<(), Memory>
+    ensures { OnOk result (out.new ≡ out.old ++ place_words list item) }
+{
+    match list {
+        KeyList::Top => Ok(()),
+        KeyList::Nodes => push_numbered(alloc, out, "nodes[", item, "]."),
+        KeyList::Pauses => push_numbered(alloc, out, "pauses[", item, "]."),
+    }
+}
+
+// Appends a key and what is wrong with it.
+fn push_keyed(alloc: Global, out: &mut Text, key: &Key, wrong: &str) -> Result<(), Memory>
+    ensures { OnOk result (out.new ≡ out.old ++ (key_words key.now ++ wrong.now)) }
+{
+    push_key(alloc, out, key)?;
+    out.push(wrong.as_bytes())
+}
+
+// Appends why numbers make no law.
+fn push_law_fault(alloc: Global, out: &mut Text, fault: LawFault) -> Result<(), Memory>
+    ensures { OnOk result (out.new ≡ out.old ++ law_words fault) }
+{
+    match fault {
+        LawFault::Empty => out.push(b"no points"),
+        LawFault::Repeated(demand) => push_numbered(alloc, out, "demand ", demand, " twice"),
+        LawFault::ZeroWeight(demand) => push_numbered(
+            alloc,
+            out,
+            "demand ",
+            demand,
+            " has weight 0",
+        ),
+        LawFault::TooLarge => out.push(b"too large"),
+        LawFault::Disordered => out.push(b"out of order"),
+        LawFault::NotMultiple => out.push(b"does not divide the total"),
+    }
+}
+
+// Appends a key and why its numbers make no law.
+fn push_bad_law(alloc: Global, out: &mut Text, key: &Key, fault: LawFault) -> Result<(), Memory>
+    ensures { OnOk result (out.new ≡ out.old ++ instance_words (InstanceFault.BadLaw key.now fault)) }
+{
+    push_keyed(alloc, out, key, ": law: ")?;
+    push_law_fault(alloc, out, fault)
+}
+
+// Appends why a text says no instance.
+fn push_instance_fault(alloc: Global, out: &mut Text, fault: &InstanceFault) -> Result<(), Memory>
+    ensures { OnOk result (out.new ≡ out.old ++ instance_words fault.now) }
+{
+    match fault {
+        InstanceFault::NotJson => out.push(b"not JSON"),
+        InstanceFault::UnknownKind => out.push(b"unknown kind"),
+        InstanceFault::NotBuilt => out.push(b"not built yet"),
+        InstanceFault::Missing(key) => push_keyed(alloc, out, key, ": missing"),
+        InstanceFault::UnknownKey(key) => push_keyed(alloc, out, key, ": unknown key"),
+        InstanceFault::WrongType(key) => push_keyed(alloc, out, key, ": wrong type"),
+        InstanceFault::OutOfRange(key) => push_keyed(alloc, out, key, ": out of range"),
+        InstanceFault::LengthMismatch(key) => push_keyed(alloc, out, key, ": wrong length"),
+        InstanceFault::BadLaw(key, law_fault) => push_bad_law(alloc, out, key, *law_fault),
+        InstanceFault::Speculative(period) => push_numbered(
+            alloc,
+            out,
+            "period ",
+            *period,
+            ": speculative cost",
+        ),
+        InstanceFault::NoDemand => out.push(b"no demand"),
+        InstanceFault::NotUnitDemand => out.push(b"demand is not 0 or 1"),
+        InstanceFault::Grid => out.push(b"grid too large"),
+        InstanceFault::NetworkShape(node) => push_numbered(
+            alloc,
+            out,
+            "node ",
+            *node,
+            ": network shape",
+        ),
+        InstanceFault::Overlap(pause) => push_numbered(alloc, out, "pause ", *pause, ": overlap"),
+        InstanceFault::Load(node) => push_numbered(alloc, out, "node ", *node, ": load"),
+        InstanceFault::Width => out.push(b"too wide"),
+    }
+}
+
+// The kind's name in an instance.
+fn kind_name(kind: Kind) -> &'static str
+    ensures { result.now ≡ kind_word kind }
+{
+    match kind {
+        Kind::News => "newsvendor",
+        Kind::Lots => "lots",
+        Kind::Finite => "finite",
+        Kind::Average => "average",
+        Kind::Serial => "serial",
+        Kind::Network => "network",
+    }
+}
+
+// Appends that the command doesn't take the kind.
+fn push_wrong_kind(out: &mut Text, kind: Kind) -> Result<(), Memory>
+    ensures { OnOk result (out.new ≡ out.old ++ fault_words (Fault.NotThisCommand kind)) }
+{
+    push_both(
+        out,
+        "this command does not take kind ",
+        kind_name(kind).as_bytes(),
+    )
+}
+
+// Appends that the input of this name failed.
+fn push_unread(out: &mut Text, name: &Text) -> Result<(), Memory>
+    ensures { OnOk result (out.new ≡ out.old ++ fault_words (Fault.ReadFault name.now)) }
+{
+    push_both(out, "cannot read ", name.bytes())
+}
+
+// Appends what the message says behind the program's name.
+fn push_fault(alloc: Global, out: &mut Text, fault: &Fault) -> Result<(), Memory>
+    ensures { OnOk result (out.new ≡ out.old ++ fault_words fault.now) }
+{
+    match fault {
+        Fault::NotBuilt => out.push(b"word 1: not built yet"),
+        Fault::TooLong => out.push(b"instance longer than 1048576 bytes"),
+        Fault::Instance(wrong) => {
+            out.push(b"instance: ")?;
+            push_instance_fault(alloc, out, wrong)
+        }
+        Fault::NotThisCommand(kind) => push_wrong_kind(out, *kind),
+        Fault::ReadFault(name) => push_unread(out, name),
+        Fault::WriteFault => out.push(b"cannot write"),
+        Fault::Memory => out.push(b"out of memory"),
+    }
+}
+
+/// The line of standard error that tells a fault: `stock: `, the message and a line feed.
+pub fn fault_text(alloc: Global, fault: &Fault) -> Result<Text, Memory>
+    ensures { IfOk result (λ text. text ≡ fault_message fault.now) }
+{
+    let mut text = Text::new(alloc);
+    text.push(b"stock: ")?;
+    push_fault(alloc, &mut text, fault)?;
+    text.push(b"\n")?;
+    Ok(text)
+}
