@@ -7,7 +7,7 @@ use Rattle.decision_model.specs.declared.instance.Instance.TheVariants.{News, Lo
 use Rattle.instance_json.specs.Reads.{reads}
 use Rattle.instance_json.specs.declared.fault.InstanceFault.{InstanceFault}
 use Rattle.instance_json.specs.declared.fault.InstanceFault.TheVariants as instance
-use Rattle.report_text.specs.DemandTexts.{demand_text_of}
+use Rattle.report_text.specs.Demand.{demand_text_of}
 use Rattle.report_text.specs.declared.faults.Fault.{Fault}
 use Rattle.report_text.specs.declared.faults.Fault.TheVariants as fault
 use Rattle.stock_cli.specs.Report.{report_of}
