@@ -6,5 +6,9 @@ mod keys;
 mod limits;
 mod lots;
 mod numbers;
+mod write;
+mod write_kinds;
+mod write_values;
 
 pub use fault::{FieldErr, FieldFault, InstanceErr, InstanceFault, Key, KeyList};
+pub use write::write_instance;
