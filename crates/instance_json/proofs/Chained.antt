@@ -3,7 +3,10 @@ use Rattle.std.proofs.Common.{◌≡◌, Result, Ok, Err, refl, sym, ap, ◌∙�
 use Rattle.instance_json.specs.declared.fault.InstanceFault.{InstanceFault}
 use Rattle.instance_json.specs.declared.fault.InstanceErr.{InstanceErr}
 use Rattle.instance_json.specs.declared.fault.InstanceErr.TheVariants.{Bad, Memory}
-use Rattle.instance_json.specs.Faults.{Gives}
+use Rattle.instance_json.specs.declared.fault.FieldFault.{FieldFault}
+use Rattle.instance_json.specs.declared.fault.FieldErr.{FieldErr}
+use Rattle.instance_json.specs.declared.fault.FieldErr.TheVariants as field
+use Rattle.instance_json.specs.Faults.{Gives, GivesField}
 use Rattle.instance_json.specs.Steps.{◌>>=◌}
 
 -- a refused step ends the reading
@@ -18,3 +21,11 @@ gives_rest answer step rest a h g = subst (λ r. Gives answer (r >>= rest)) (sym
 -- the steps were taken, one and all
 pub taken : {A B : Type 0} (step : Result A InstanceFault) (rest : A → Result B InstanceFault) (a : A) (b : B) → step ≡ Ok a → rest a ≡ Ok b → (step >>= rest) ≡ Ok b
 taken step rest a b h g = ap (λ r. r >>= rest) h ∙ g
+
+-- the same within the value of a key
+pub field_refused : {A B : Type 0} (e : FieldErr) (step : Result A FieldFault) (rest : A → Result B FieldFault) → GivesField (Err e) step → GivesField (Err e) (step >>= rest)
+field_refused (field.Bad f) step rest h = ap (λ r. r >>= rest) h
+field_refused field.Memory step rest h = tt
+
+pub field_rest : {A B : Type 0} (answer : Result B FieldErr) (step : Result A FieldFault) (rest : A → Result B FieldFault) (a : A) → step ≡ Ok a → GivesField answer (rest a) → GivesField answer (step >>= rest)
+field_rest answer step rest a h g = subst (λ r. GivesField answer (r >>= rest)) (sym h) g

@@ -5,3 +5,5 @@ pub mod Chained
 pub mod WrittenLists
 pub mod WrittenMembers
 pub mod WrittenPlain
+pub mod Made
+pub mod LawSum

@@ -5,6 +5,7 @@ use Rattle.std.specs.Str.{bytes_eq}
 use Rattle.serde_json.specs.Data.{Data, Members, no_members, member}
 use Rattle.serde_json.specs.Find.{get, as_object}
 use Rattle.instance_json.specs.declared.fault.FieldFault.{FieldFault}
+use Rattle.instance_json.specs.declared.fault.FieldFault.TheVariants.{OutOfRange}
 use Rattle.instance_json.specs.declared.fault.InstanceFault.{InstanceFault}
 use Rattle.instance_json.specs.declared.fault.InstanceFault.TheVariants.{Missing, UnknownKey}
 use Rattle.instance_json.specs.Faults.{top_key, told}
@@ -26,6 +27,10 @@ given form default name (Some d) = told name (form d)
 -- an optional key, whose value has this form, and what holds where it is absent
 abbrev pub optional : {A : Type 0} → (Data → Result A FieldFault) → A → List ℕ → Data → Result A InstanceFault
 optional form default name d = given form default name (get name d)
+
+-- a key's value is out of range where this doesn't hold
+abbrev pub in_range : List ℕ → Bool → Result ⊤ InstanceFault
+in_range name holds = told name (if holds then Ok tt else Err OutOfRange)
 
 -- each of these keys is there
 abbrev pub all_present : List (List ℕ) → Data → Result ⊤ InstanceFault

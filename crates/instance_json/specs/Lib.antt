@@ -6,3 +6,10 @@ pub mod Lots
 pub mod WrittenValues
 pub mod WrittenKinds
 pub mod Written
+pub mod LawTexts
+pub mod Positions
+pub mod Fields
+pub mod News
+pub mod Averages
+pub mod Horizons
+pub mod Serials

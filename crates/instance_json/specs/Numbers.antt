@@ -1,5 +1,5 @@
 -- Whole numbers and lists of them in JSON values.
-use Rattle.std.specs.Prelude.{ℕ, ◌&&◌, ◌||◌, ◌==◌, ℤ, pos, negsuc, List, [], ◌∷◌, length, replicate, Bool, nat_le, int_le, if◌then◌else◌, Option, Some, None, is_some, option_map, option_and_then, Result, Ok, Err}
+use Rattle.std.specs.Prelude.{ℕ, ◌&&◌, ◌||◌, ◌==◌, ℤ, pos, negsuc, List, [], ◌∷◌, length, replicate, Bool, nat_le, int_le, if◌then◌else◌, Option, Some, None, is_some, is_ok, option_map, option_and_then, Result, Ok, Err}
 use Rattle.std.specs.List.{list_all}
 use Rattle.serde_json.specs.Data.{Data, Items, no_items, item}
 use Rattle.serde_json.specs.Find.{as_number, as_u64, as_i64, as_array}
@@ -19,6 +19,10 @@ within least most (Some n) = if nat_le least n && nat_le n most then Ok n else E
 abbrev pub amount_in : ℕ → ℕ → Data → Result ℕ FieldFault
 amount_in least most d = if is_whole d then within least most (option_and_then as_u64 (as_number d)) else Err WrongType
 
+-- whether a value is such a number
+abbrev pub is_amount : ℕ → ℕ → Data → Bool
+is_amount least most d = is_ok (amount_in least most d)
+
 -- the same, where the number may be absent
 abbrev pub some_amount_in : ℕ → ℕ → Data → Result (Option ℕ) FieldFault
 some_amount_in least most d = amount_in least most d >>= λ n. Ok (Some n)
@@ -36,21 +40,25 @@ abbrev pub list_of : Items → List Data
 list_of no_items = []
 list_of (item d ds) = d ∷ list_of ds
 
--- the items of a list, none of which has a wrong shape
-abbrev pub items_all : (Data → Bool) → Option Items → Result (List Data) FieldFault
-items_all shape None = Err WrongType
-items_all shape (Some ds) = if list_all shape (list_of ds) then Ok (list_of ds) else Err WrongType
+-- the items of a list, if the value is one
+abbrev pub items_in : Data → Option (List Data)
+items_in d = option_map list_of (as_array d)
+
+-- the items of a list of whole numbers
+abbrev pub all_whole : Option (List Data) → Result (List Data) FieldFault
+all_whole None = Err WrongType
+all_whole (Some ds) = if list_all is_whole ds then Ok ds else Err WrongType
 
 -- a list of whole numbers from 0 to `most`
 abbrev pub amounts_in : ℕ → Data → Result (List ℕ) FieldFault
 amounts_in most d = do
-  items ← items_all is_whole (as_array d)
+  items ← all_whole (items_in d)
   each (amount_in 0 most) items
 
 -- a list of positions
 abbrev pub positions_in : Data → Result (List ℤ) FieldFault
 positions_in d = do
-  items ← items_all is_whole (as_array d)
+  items ← all_whole (items_in d)
   each position_in items
 
 -- a list of a length from `least` to `most`

@@ -1,17 +1,22 @@
 // The keys of an object, and the values under them.
-ghost use Rattle.std.specs.Prelude.{◌≡◌, map, Ok, Err, MatchResult, IfOk, IfErr, IfSome, ◌≤◌, Some, None, replicate};
+ghost use Rattle.std.specs.Prelude.{◌≡◌, map, Ok, Err, MatchResult, IfOk, IfErr, IfSome, codes, sum, length, false, ◌≤◌, Some, None, replicate};
 ghost use Rattle.std.specs.List.{list_any};
 ghost use Rattle.std.specs.Str.{bytes_eq};
 ghost use Rattle.serde_json.specs.View.{view};
 ghost use Rattle.serde_json.specs.Find.{as_object};
 ghost use Rattle.instance_json.specs.Faults.{Gives, MatchErr, top_key};
 ghost use Rattle.instance_json.specs.Numbers.{amount_in, some_amount_in, position_in, rates_in, some_amounts_in, start_positions_in};
-ghost use Rattle.instance_json.specs.Keys.{required, optional, all_present, all_known, has_keys};
+ghost use Rattle.instance_json.specs.LawTexts.{law_in, laws_in};
+ghost use Rattle.instance_json.specs.Fields.{discount_in, policy_in};
+ghost use Rattle.instance_json.specs.Keys.{required, optional, in_range, all_present, all_known, has_keys};
 ghost use Rattle.instance_json.specs.declared.fault.InstanceFault.TheVariants.{Missing, UnknownKey};
 
-use crate::fault::{FieldErr, InstanceErr, InstanceFault, told_err, top_key};
+use crate::fault::{FieldErr, FieldFault, InstanceErr, InstanceFault, told_err, top_key};
+use crate::fields::{discount, policy};
+use crate::laws::{law, laws};
 use crate::numbers::{amount, count, position, rates, some_amounts, start_positions};
-use decision_model::{Amounts, Positions};
+use decision_model::{Amounts, Laws, Positions};
+use demand_law::Law;
 use serde_json::Value;
 use std::alloc::Global;
 
@@ -33,7 +38,8 @@ pub fn amount_at(
     least: u64,
     most: u64,
 ) -> Result<u64, InstanceErr>
-    ensures { Gives result (required (amount_in least most) name.now (view object.now)) }
+    ensures value { Gives result (required (amount_in least most) name.now (view object.now)) }
+    ensures most { IfOk result (λ number. number ≤ most) }
 {
     let Some(value) = object.get(name) else {
         return Err(missing(alloc, name));
@@ -199,6 +205,85 @@ pub fn count_or_none(
         Ok(number) => Ok(Some(number)),
         Err(fault) => Err(told_err(alloc, name, FieldErr::Bad(fault))),
     }
+}
+
+// A required key, whose value is one position a place.
+pub fn start_at(alloc: Global, object: &Value, name: &str, places: usize) -> Result<Positions, InstanceErr>
+    ensures { Gives result (required (start_positions_in places) name.now (view object.now)) }
+{
+    let Some(value) = object.get(name) else {
+        return Err(missing(alloc, name));
+    };
+    match start_positions(alloc, value, places) {
+        Ok(list) => Ok(list),
+        Err(error) => Err(told_err(alloc, name, error)),
+    }
+}
+
+// A required key, whose value is a law.
+pub fn law_at(alloc: Global, object: &Value, name: &str) -> Result<Law, InstanceErr>
+    ensures value { Gives result (required law_in name.now (view object.now)) }
+    ensures total { IfOk result (λ law. sum law ≤ 1000000000) }
+    ensures short { IfOk result (λ law. length law ≤ 10001) }
+{
+    let Some(value) = object.get(name) else {
+        return Err(missing(alloc, name));
+    };
+    match law(alloc, value) {
+        Ok(law) => Ok(law),
+        Err(error) => Err(told_err(alloc, name, error)),
+    }
+}
+
+// A required key, whose value is one law, or one law a place, all at one sum of weights.
+pub fn laws_at(alloc: Global, object: &Value, name: &str, places: usize, total: Option<u32>) -> Result<Laws, InstanceErr>
+    requires stated { IfSome total (λ n. 1 ≤ n) }
+    requires within { IfSome total (λ n. n ≤ 1000000000) }
+    ensures { Gives result (required (laws_in places total) name.now (view object.now)) }
+{
+    let Some(value) = object.get(name) else {
+        return Err(missing(alloc, name));
+    };
+    match laws(alloc, value, places, total) {
+        Ok(list) => Ok(list),
+        Err(error) => Err(told_err(alloc, name, error)),
+    }
+}
+
+// The optional discount, 1/1 where it is absent.
+pub fn discount_or_one(alloc: Global, object: &Value) -> Result<(u32, u32), InstanceErr>
+    ensures { Gives result (optional discount_in (1, 1) (codes "discount") (view object.now)) }
+{
+    let Some(value) = object.get("discount") else {
+        return Ok((1, 1));
+    };
+    match discount(value) {
+        Ok(ratio) => Ok(ratio),
+        Err(fault) => Err(told_err(alloc, "discount", FieldErr::Bad(fault))),
+    }
+}
+
+// Whether the optional policy is one of lots; it is not where it is absent.
+pub fn policy_or_default(alloc: Global, object: &Value) -> Result<bool, InstanceErr>
+    ensures { Gives result (optional policy_in false (codes "policy") (view object.now)) }
+{
+    let Some(value) = object.get("policy") else {
+        return Ok(false);
+    };
+    match policy(value) {
+        Ok(lots) => Ok(lots),
+        Err(fault) => Err(told_err(alloc, "policy", FieldErr::Bad(fault))),
+    }
+}
+
+// A key's value is out of range where this doesn't hold.
+pub fn in_range(alloc: Global, name: &str, holds: bool) -> Result<(), InstanceErr>
+    ensures { Gives result (in_range name.now holds) }
+{
+    if holds {
+        return Ok(());
+    }
+    Err(told_err(alloc, name, FieldErr::Bad(FieldFault::OutOfRange)))
 }
 
 // Whether a name is one of these.

@@ -1,14 +1,21 @@
 //! Instances read from JSON text, with the first fault of a text that says none.
 #![tactic(auto)]
 
+mod average;
 mod fault;
+mod fields;
+mod finite;
 mod keys;
+mod law_texts;
+mod laws;
 mod limits;
 mod lots;
+mod news;
 mod numbers;
 mod write;
 mod write_kinds;
 mod write_values;
+mod serial;
 
 pub use fault::{FieldErr, FieldFault, InstanceErr, InstanceFault, Key, KeyList};
 pub use write::write_instance;

@@ -38,3 +38,9 @@ pub const LEAST_POSITION: i64 = -1_000_000;
 
 /// The greatest numerator and denominator of a discount.
 pub const MOST_DISCOUNT: u32 = 1_000;
+
+/// The greatest number of a law's text.
+pub const MOST_WORD: u32 = 4_294_967_295;
+
+/// The greatest position to order up to over a finite horizon.
+pub const MOST_CAP: u64 = 1_000_000;

@@ -1,11 +1,10 @@
 // Whole numbers and lists of them.
-ghost use Rattle.std.specs.Prelude.{◌≡◌, ◌≤◌, map, Ok, Err, IfOk, MatchResult};
+ghost use Rattle.std.specs.Prelude.{◌≡◌, ◌≤◌, map, Ok, Err, IfOk, MatchResult, option_map};
 ghost use Rattle.std.specs.List.{list_all};
 ghost use Rattle.serde_json.specs.View.{view};
-ghost use Rattle.serde_json.specs.Find.{as_array};
 ghost use Rattle.instance_json.specs.Steps.{each};
 ghost use Rattle.instance_json.specs.Faults.{GivesField};
-ghost use Rattle.instance_json.specs.Numbers.{is_whole, items_all, amount_in, position_in, amounts_in, positions_in, of_length_within, some_amounts_in, start_positions_in, rates_in};
+ghost use Rattle.instance_json.specs.Numbers.{is_whole, items_in, all_whole, amount_in, position_in, amounts_in, positions_in, of_length_within, some_amounts_in, start_positions_in, rates_in};
 
 use crate::fault::{FieldErr, FieldFault};
 use crate::limits::{LEAST_POSITION, MOST_POSITION};
@@ -104,20 +103,29 @@ fn listed_positions(alloc: Global, list: &[Value]) -> Result<Positions, FieldErr
     Ok(Positions::new(numbers))
 }
 
+// The items of a list.
+pub fn items(value: &Value) -> Option<&[Value]>
+    ensures { option_map (λ list. map view list.now) result ≡ items_in (view value.now) }
+{
+    match value.as_array() {
+        Some(list) => Some(list.as_slice()),
+        None => None,
+    }
+}
+
 // The items of a list of whole numbers.
 fn whole_items(value: &Value) -> Result<&[Value], FieldFault>
     ensures { MatchResult result
-        (λ list. items_all is_whole (as_array (view value.now)) ≡ Ok (map view list.now))
-        (λ fault. items_all is_whole (as_array (view value.now)) ≡ Err fault) }
+        (λ list. all_whole (items_in (view value.now)) ≡ Ok (map view list.now))
+        (λ fault. all_whole (items_in (view value.now)) ≡ Err fault) }
 {
-    let Some(list) = value.as_array() else {
+    let Some(list) = items(value) else {
         return Err(FieldFault::WrongType);
     };
-    let items = list.as_slice();
-    if !are_whole(items) {
+    if !are_whole(list) {
         return Err(FieldFault::WrongType);
     }
-    Ok(items)
+    Ok(list)
 }
 
 // A list of whole numbers from 0 to `most`.

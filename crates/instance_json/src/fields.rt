@@ -1,0 +1,83 @@
+// Values of single keys: a discount, a policy, the positions of a serial system.
+ghost use Rattle.std.specs.Prelude.{◌≡◌};
+ghost use Rattle.std.specs.List.{list_all};
+ghost use Rattle.std.specs.Prelude.{int_le};
+ghost use Rattle.serde_json.specs.View.{view};
+ghost use Rattle.serde_json.specs.Find.{at};
+ghost use Rattle.instance_json.specs.Positions.{rises_from, is_start};
+ghost use Rattle.instance_json.specs.Fields.{part_of, discount_in, policy_in};
+
+use crate::fault::FieldFault;
+use crate::law_texts::{NumberTest, is_tuple};
+use crate::limits::{LEAST_POSITION, MOST_DISCOUNT};
+use crate::numbers::count;
+use serde_json::Value;
+
+fn part(value: &Value, place: usize, most: u32) -> Result<u32, FieldFault>
+    ensures { result ≡ part_of most (at place (view value.now)) }
+{
+    match value.get(place) {
+        Some(number) => count(number, 1, most),
+        None => Err(FieldFault::WrongType),
+    }
+}
+
+/// The numbers a and b of a discount a/b.
+pub fn discount(value: &Value) -> Result<(u32, u32), FieldFault>
+    ensures { result ≡ discount_in (view value.now) }
+{
+    if !is_tuple(NumberTest::Whole, 2, value) {
+        return Err(FieldFault::WrongType);
+    }
+    let den = part(value, 1, MOST_DISCOUNT)?;
+    let num = part(value, 0, den)?;
+    Ok((num, den))
+}
+
+/// Whether a policy is told as a reorder point with a lot.
+pub fn policy(value: &Value) -> Result<bool, FieldFault>
+    ensures { result ≡ policy_in (view value.now) }
+{
+    let Some(name) = value.as_str() else {
+        return Err(FieldFault::WrongType);
+    };
+    if name == "sS" {
+        return Ok(false);
+    }
+    if name == "rQ" {
+        return Ok(true);
+    }
+    Err(FieldFault::OutOfRange)
+}
+
+// Whether each number is at least the one before it, and the first at least `low`.
+fn rises_from(low: i64, positions: &[i64]) -> bool
+    ensures { result ≡ rises_from low positions.now }
+{
+    let mut low = low;
+    for position in positions {
+        if *position < low {
+            return false;
+        }
+        low = *position;
+    }
+    true
+}
+
+fn are_at_most(cap: i64, positions: &[i64]) -> bool
+    ensures { result ≡ list_all (λ x. int_le x cap) positions.now }
+{
+    for position in positions {
+        if *position > cap {
+            return false;
+        }
+    }
+    true
+}
+
+/// Whether echelon stocks never fall and are at most `cap`.
+pub fn is_start(cap: i64, positions: &[i64]) -> bool
+    ensures { result ≡ is_start cap positions.now }
+{
+    rises_from(LEAST_POSITION, positions) && are_at_most(cap, positions)
+}
