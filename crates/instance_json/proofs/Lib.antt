@@ -7,3 +7,4 @@ pub mod WrittenMembers
 pub mod WrittenPlain
 pub mod Made
 pub mod LawSum
+pub mod BackNumbers

@@ -1,3 +1,4 @@
+use Rattle.instance_json.proofs.BackNumbers.{amount_back}
 use Rattle.std.proofs.Common.{◌≤◌, Some, ap, ◌∙◌, arith}
 use Rattle.serde_json.specs.Data.{depth}
 use Rattle.serde_json.specs.View.{view}
