@@ -8,3 +8,5 @@ pub mod WrittenPlain
 pub mod Made
 pub mod LawSum
 pub mod BackNumbers
+pub mod BackPoints
+pub mod BackLaws

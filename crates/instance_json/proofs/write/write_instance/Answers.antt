@@ -1,3 +1,5 @@
+use Rattle.instance_json.proofs.BackLaws.{law_back}
+use Rattle.instance_json.proofs.BackPoints.{points_law-back}
 use Rattle.instance_json.proofs.BackNumbers.{amount_back}
 use Rattle.std.proofs.Common.{◌≤◌, Some, ap, ◌∙◌, arith}
 use Rattle.serde_json.specs.Data.{depth}
