@@ -1,1 +1,12 @@
 pub mod Kind
+pub mod Positions
+pub mod DemandLaws
+pub mod Rates
+pub mod LawFacts
+pub mod Lots
+pub mod Finite
+pub mod Average
+pub mod Serial
+pub mod WidthFacts
+pub mod LeadTimes
+pub mod Valid

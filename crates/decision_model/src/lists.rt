@@ -75,6 +75,10 @@ impl Model for Laws {
 }
 
 impl Laws {
+    ghost use Rattle.std.specs.Prelude.{◌<◌, length};
+    ghost use Rattle.demand_law.specs.Sequences.{greatest_in};
+    ghost use Rattle.decision_model.specs.DemandLaws.{common_total};
+
     pub fn new(items: Vec<Law>) -> Laws
         ensures { result ≡ items.items }
     {
@@ -85,5 +89,24 @@ impl Laws {
         ensures { result.now ≡ self.now }
     {
         &self.items
+    }
+
+    /// The greatest demand of all the laws.
+    pub fn greatest(&self) -> u32
+        ensures { result ≡ greatest_in self.now }
+    {
+        let mut greatest = 0;
+        for law in &self.items {
+            greatest = greatest.max(law.greatest());
+        }
+        greatest
+    }
+
+    /// The sum of the weights of the first law.
+    pub fn total(&self) -> u128
+        requires { 0 < length self.now }
+        ensures { result ≡ common_total self.now }
+    {
+        self.items[0].total()
     }
 }

@@ -1,0 +1,4 @@
+pub mod Greatest
+pub mod Searched
+pub mod Narrow
+pub mod RateSums

@@ -1,0 +1,17 @@
+-- Ranges of cost rates, periods and discounts.
+use Rattle.std.specs.Prelude.{ℕ, ◌≤◌}
+
+-- a cost rate is from 0 to 1,000,000
+abbrev pub IsRate : ℕ → Type 0
+IsRate rate = rate ≤ 1000000
+
+-- a horizon has from 1 to 104 periods
+pub record IsHorizon (periods : ℕ) : Type 0 where
+  pub least : 1 ≤ periods
+  pub most : periods ≤ 104
+
+-- a discount num/den, in whole numbers from 1 to 1,000, is at most 1
+pub record IsDiscount (num den : ℕ) : Type 0 where
+  pub least : 1 ≤ num
+  pub proper : num ≤ den
+  pub most : den ≤ 1000
