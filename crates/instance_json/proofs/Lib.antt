@@ -10,3 +10,5 @@ pub mod LawSum
 pub mod BackNumbers
 pub mod BackPoints
 pub mod BackLaws
+pub mod Scaled
+pub mod Values

@@ -13,3 +13,4 @@ pub mod News
 pub mod Averages
 pub mod Horizons
 pub mod Serials
+pub mod Reads

@@ -15,6 +15,7 @@ mod numbers;
 mod write;
 mod write_kinds;
 mod write_values;
+mod read;
 mod serial;
 
 pub use fault::{FieldErr, FieldFault, InstanceErr, InstanceFault, Key, KeyList};
