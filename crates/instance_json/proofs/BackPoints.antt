@@ -10,7 +10,8 @@ use Rattle.demand_law.specs.Points.{weight_in, total_in, width_in, is_listed, fi
 use Rattle.decision_model.specs.DemandLaws.{IsDemandLaw}
 use Rattle.instance_json.specs.WrittenValues.{points_from}
 
-abbrev Point : Type 0
+-- a demand and its weight
+abbrev pub Point : Type 0
 Point = ℕ × ℕ
 
 -- the points of a law from one demand on, by whether that demand has a weight

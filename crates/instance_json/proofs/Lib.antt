@@ -12,3 +12,7 @@ pub mod BackPoints
 pub mod BackLaws
 pub mod Scaled
 pub mod Values
+pub mod BackKeys
+pub mod BackNews
+pub mod BackLots
+pub mod BackFields

@@ -1,3 +1,6 @@
+use Rattle.instance_json.proofs.BackFields.{discount_back}
+use Rattle.instance_json.proofs.BackNews.{newsvendor_back}
+use Rattle.instance_json.proofs.BackLots.{lots_back}
 use Rattle.instance_json.proofs.BackLaws.{law_back}
 use Rattle.instance_json.proofs.BackPoints.{points_law-back}
 use Rattle.instance_json.proofs.BackNumbers.{amount_back}
