@@ -16,3 +16,6 @@ pub mod BackKeys
 pub mod BackNews
 pub mod BackLots
 pub mod BackFields
+pub mod BackAverage
+pub mod BackFinite
+pub mod BackSerial

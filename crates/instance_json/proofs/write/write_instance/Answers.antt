@@ -1,3 +1,6 @@
+use Rattle.instance_json.proofs.BackAverage.{average_back}
+use Rattle.instance_json.proofs.BackFinite.{finite_back}
+use Rattle.instance_json.proofs.BackSerial.{serial_back}
 use Rattle.instance_json.proofs.BackFields.{discount_back}
 use Rattle.instance_json.proofs.BackNews.{newsvendor_back}
 use Rattle.instance_json.proofs.BackLots.{lots_back}
