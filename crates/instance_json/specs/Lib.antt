@@ -3,6 +3,9 @@ pub mod Faults
 pub mod Numbers
 pub mod Keys
 pub mod Lots
+pub mod WrittenValues
+pub mod WrittenKinds
+pub mod Written
 pub mod LawTexts
 pub mod Positions
 pub mod Fields
@@ -10,3 +13,4 @@ pub mod News
 pub mod Averages
 pub mod Horizons
 pub mod Serials
+pub mod Reads

@@ -12,6 +12,11 @@ mod limits;
 mod lots;
 mod news;
 mod numbers;
+mod write;
+mod write_kinds;
+mod write_values;
+mod read;
 mod serial;
 
 pub use fault::{FieldErr, FieldFault, InstanceErr, InstanceFault, Key, KeyList};
+pub use write::write_instance;

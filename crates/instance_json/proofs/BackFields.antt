@@ -1,0 +1,67 @@
+-- A discount, a policy, a cap and echelon stocks that were written are read back.
+use Rattle.std.proofs.Common.{◌≡◌, ℕ, zero, suc, ◌+◌, ◌-◌, ◌<◌, ◌≤◌, ℤ, pos, negsuc, ◌≤ℤ◌, List, [], ◌∷◌, length, get_or, All, Bool, true, false, Ok, refl, ap, ◌∙◌, subst, arith}
+use Rattle.std.specs.Prelude.{int_le}
+use Rattle.std.specs.List.{list_all, AllAdjacentBelow}
+use Rattle.std.proofs.lemmas.Int.{ints}
+use Rattle.demand_law.specs.Integers.{le_trans}
+use Rattle.serde_json.specs.Data.{string}
+use Rattle.decision_model.specs.Rates.{IsDiscount}
+use Rattle.decision_model.specs.Positions.{IsPosition, IsCap}
+use Rattle.instance_json.specs.declared.law_texts.NumberTest.TheVariants.{Whole}
+use Rattle.instance_json.specs.Numbers.{amount_in}
+use Rattle.instance_json.specs.Fields.{discount_in, policy_in}
+use Rattle.instance_json.specs.Positions.{rises_from, is_start}
+use Rattle.instance_json.specs.WrittenValues.{position_data, pair_data}
+use Rattle.instance_json.specs.WrittenKinds.{policy_text}
+use Rattle.instance_json.proofs.BackNumbers.{amount_back, int_le_is}
+use Rattle.instance_json.proofs.BackLaws.{is_tuple-pair}
+
+pub discount_back : (num den : ℕ) → IsDiscount num den → discount_in (pair_data num den) ≡ Ok (num, den)
+discount_back num den is =
+    let shape = is_tuple-pair Whole num den (omega (arith, is.proper, is.most)) (omega (arith, is.most)) in
+    let second = amount_back 1 1000 den (omega (arith, is.least, is.proper)) is.most in
+    let first = amount_back 1 den num is.least is.proper in
+    rw (shape, second, first) refl
+
+pub policy_back : (lots : Bool) → policy_in (string (policy_text lots)) ≡ Ok lots
+policy_back true = refl
+policy_back false = refl
+
+-- a cap is a natural number
+pub cap_number : (cap : ℤ) → IsCap cap → (n : ℕ) × (cap ≡ pos n) × (n ≤ 1000000)
+cap_number (pos n) is = (n, refl, omega (arith, ints, is.most))
+cap_number (negsuc n) is = absurd (omega (arith, ints, is.least))
+
+pub cap_back : (cap : ℤ) (n : ℕ) → cap ≡ pos n → n ≤ 1000000 → amount_in 0 1000000 (position_data cap) ≡ Ok n
+cap_back cap n is small = ap (λ (z : ℤ). amount_in 0 1000000 (position_data z)) is ∙ amount_back 0 1000000 n (omega arith) small
+
+-- ---- echelon stocks
+abbrev NeverFalls : List ℤ → Type 0
+NeverFalls xs = AllAdjacentBelow (λ x y. x ≤ℤ y) xs (length xs)
+
+never_falls_later : (x : ℤ) (xs : List ℤ) → NeverFalls (x ∷ xs) → NeverFalls xs
+never_falls_later x xs rises k d lt =
+    let Next : ℕ → Type 0 = λ n. get_or xs k d ≤ℤ get_or (x ∷ xs) n d in
+    let place : suc k + 1 ≡ suc (k + 1) = omega arith in
+    subst Next place (rises (suc k) d (omega arith))
+
+rises_again : (low : ℤ) (xs : List ℤ) → ((d : ℤ) → 0 < length xs → low ≤ℤ get_or xs 0 d) → NeverFalls xs → rises_from low xs ≡ true
+rises_again low [] above rises = refl
+rises_again low (x ∷ xs) above rises = rw (int_le_is low x (above x (omega arith))) (rises_again x xs (λ d lt. rises 0 d (omega arith)) (never_falls_later x xs rises))
+
+-- the first stock is at most a cap that the last one is at most
+first_below : (cap x : ℤ) (xs : List ℤ) → NeverFalls (x ∷ xs) → get_or (x ∷ xs) (length xs) (pos 0) ≤ℤ cap → x ≤ℤ cap
+first_below cap x [] rises last = last
+first_below cap x (y ∷ ys) rises last = le_trans x y cap (rises 0 x (omega arith)) (first_below cap y ys (never_falls_later x (y ∷ ys) rises) last)
+
+all_below : (cap x : ℤ) (xs : List ℤ) → NeverFalls (x ∷ xs) → get_or (x ∷ xs) (length xs) (pos 0) ≤ℤ cap → list_all (λ z. int_le z cap) (x ∷ xs) ≡ true
+all_below cap x [] rises last = rw (int_le_is x cap last) refl
+all_below cap x (y ∷ ys) rises last = rw (int_le_is x cap (first_below cap x (y ∷ ys) rises last)) (all_below cap y ys (never_falls_later x (y ∷ ys) rises) last)
+
+pub is_start_back : (cap : ℤ) (xs : List ℤ) → All IsPosition xs → NeverFalls xs → get_or xs (length xs - 1) (pos 0) ≤ℤ cap → is_start cap xs ≡ true
+is_start_back cap [] in_range rises last = refl
+is_start_back cap (x ∷ xs) in_range rises last =
+    let Last : ℕ → Type 0 = λ n. get_or (x ∷ xs) n (pos 0) ≤ℤ cap in
+    let place : length (x ∷ xs) - 1 ≡ length xs = omega arith in
+    let first = (in_range 0 x (omega arith)).least in
+    rw (rises_again (negsuc 999999) (x ∷ xs) (λ d lt. first) rises, all_below cap x xs rises (subst Last place last)) refl
