@@ -2,6 +2,7 @@
 #![tactic(auto)]
 
 mod faults;
+mod laws;
 mod pieces;
 #[cfg(test)]
 mod tests;
