@@ -6,6 +6,8 @@ mod instance;
 mod kinds;
 mod lists;
 mod rules;
+#[cfg(test)]
+mod tests;
 mod width;
 
 pub use grid::grid_fits;
