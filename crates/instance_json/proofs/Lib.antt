@@ -5,3 +5,4 @@ pub mod Chained
 pub mod Made
 pub mod LawSum
 pub mod Scaled
+pub mod Values

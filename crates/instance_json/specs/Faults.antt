@@ -39,11 +39,15 @@ TellsErr name e Memory = ⊤
 TellsErr name (field.Bad f) (Bad g) = g ≡ told_fault (top_key name) f
 TellsErr name field.Memory (Bad g) = ⊥
 
+-- the reading has this fault, or memory was refused
+abbrev pub Refuses : {A : Type 0} → InstanceErr → Result A InstanceFault → Type 0
+Refuses (Bad f) reading = reading ≡ Err f
+Refuses Memory reading = ⊤
+
 -- the answer of a reader is the reading, or memory was refused
 abbrev pub Gives : {A : Type 0} → Result A InstanceErr → Result A InstanceFault → Type 0
 Gives (Ok a) reading = reading ≡ Ok a
-Gives (Err (Bad f)) reading = reading ≡ Err f
-Gives (Err Memory) reading = ⊤
+Gives (Err e) reading = Refuses e reading
 
 -- the fault of a refusal; nothing is said of want of memory
 abbrev pub MatchErr : InstanceErr → (InstanceFault → Type 0) → Type 0

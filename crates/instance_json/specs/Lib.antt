@@ -10,3 +10,4 @@ pub mod News
 pub mod Averages
 pub mod Horizons
 pub mod Serials
+pub mod Reads

@@ -6,7 +6,10 @@ ghost use Rattle.instance_json.specs.Keys.{has_keys};
 ghost use Rattle.instance_json.specs.Averages.{average_of, average_needed, average_known};
 
 use crate::fault::InstanceErr;
-use crate::keys::{amount_at, amount_or_zero, count_or_zero, has_keys, in_range, law_at, policy_or_default, position_at};
+use crate::keys::{
+    amount_at, amount_or_zero, count_or_zero, has_keys, in_range, law_at, policy_or_default,
+    position_at,
+};
 use crate::limits::{MOST_LEAD, MOST_RATE, MOST_SETUP};
 use decision_model::Average;
 use serde_json::Value;
@@ -17,7 +20,9 @@ pub fn average_keys(alloc: Global, object: &Value) -> Result<(), InstanceErr>
     ensures { Gives result (has_keys average_needed average_known (view object.now)) }
 {
     let needed = ["holding", "stockout", "demand", "floor", "cap"];
-    let known = ["kind", "lead", "setup", "holding", "stockout", "demand", "floor", "cap", "policy"];
+    let known = [
+        "kind", "lead", "setup", "holding", "stockout", "demand", "floor", "cap", "policy",
+    ];
     has_keys(alloc, object, &needed, &known)
 }
 

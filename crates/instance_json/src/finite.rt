@@ -7,10 +7,12 @@ ghost use Rattle.instance_json.specs.Horizons.{finite_of, finite_costs_of, cap_a
 
 use crate::fault::InstanceErr;
 use crate::keys::{
-    amount_at, amount_or_zero, count_at, count_or_none, count_or_zero, discount_or_one, has_keys, in_range, laws_at,
-    position_at,
+    amount_at, amount_or_zero, count_at, count_or_none, count_or_zero, discount_or_one, has_keys,
+    in_range, laws_at, position_at,
 };
-use crate::limits::{MOST_CAP, MOST_LEAD, MOST_ORDER, MOST_PERIODS, MOST_RATE, MOST_SETUP, MOST_TOTAL};
+use crate::limits::{
+    MOST_CAP, MOST_LEAD, MOST_ORDER, MOST_PERIODS, MOST_RATE, MOST_SETUP, MOST_TOTAL,
+};
 use decision_model::Finite;
 use serde_json::Value;
 use std::alloc::Global;
@@ -20,7 +22,23 @@ pub fn finite_keys(alloc: Global, object: &Value) -> Result<(), InstanceErr>
     ensures { Gives result (has_keys finite_needed finite_known (view object.now)) }
 {
     let needed = ["periods", "holding", "stockout", "demand", "cap", "start"];
-    let known = ["kind", "periods", "lead", "setup", "unit", "holding", "stockout", "end_holding", "end_stockout", "discount", "most", "total", "demand", "cap", "start"];
+    let known = [
+        "kind",
+        "periods",
+        "lead",
+        "setup",
+        "unit",
+        "holding",
+        "stockout",
+        "end_holding",
+        "end_stockout",
+        "discount",
+        "most",
+        "total",
+        "demand",
+        "cap",
+        "start",
+    ];
     has_keys(alloc, object, &needed, &known)
 }
 

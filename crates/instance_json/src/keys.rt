@@ -208,7 +208,12 @@ pub fn count_or_none(
 }
 
 // A required key, whose value is one position a place.
-pub fn start_at(alloc: Global, object: &Value, name: &str, places: usize) -> Result<Positions, InstanceErr>
+pub fn start_at(
+    alloc: Global,
+    object: &Value,
+    name: &str,
+    places: usize,
+) -> Result<Positions, InstanceErr>
     ensures { Gives result (required (start_positions_in places) name.now (view object.now)) }
 {
     let Some(value) = object.get(name) else {
@@ -236,7 +241,13 @@ pub fn law_at(alloc: Global, object: &Value, name: &str) -> Result<Law, Instance
 }
 
 // A required key, whose value is one law, or one law a place, all at one sum of weights.
-pub fn laws_at(alloc: Global, object: &Value, name: &str, places: usize, total: Option<u32>) -> Result<Laws, InstanceErr>
+pub fn laws_at(
+    alloc: Global,
+    object: &Value,
+    name: &str,
+    places: usize,
+    total: Option<u32>,
+) -> Result<Laws, InstanceErr>
     requires stated { IfSome total (λ n. 1 ≤ n) }
     requires within { IfSome total (λ n. n ≤ 1000000000) }
     ensures { Gives result (required (laws_in places total) name.now (view object.now)) }

@@ -128,7 +128,12 @@ fn one_law(alloc: Global, value: &Value, total: Option<u32>) -> Result<Laws, Fie
 }
 
 // One law a place.
-fn law_each(alloc: Global, list: &[Value], places: usize, total: Option<u32>) -> Result<Laws, FieldErr>
+fn law_each(
+    alloc: Global,
+    list: &[Value],
+    places: usize,
+    total: Option<u32>,
+) -> Result<Laws, FieldErr>
     requires stated { IfSome total (λ n. 1 ≤ n) }
     requires within { IfSome total (λ n. n ≤ 1000000000) }
     ensures { GivesField result (laws_each places total (map view list.now)) }
@@ -141,7 +146,12 @@ fn law_each(alloc: Global, list: &[Value], places: usize, total: Option<u32>) ->
 }
 
 /// One law, which serves every place, or one a place, all at one sum of weights.
-pub fn laws(alloc: Global, value: &Value, places: usize, total: Option<u32>) -> Result<Laws, FieldErr>
+pub fn laws(
+    alloc: Global,
+    value: &Value,
+    places: usize,
+    total: Option<u32>,
+) -> Result<Laws, FieldErr>
     requires stated { IfSome total (λ n. 1 ≤ n) }
     requires within { IfSome total (λ n. n ≤ 1000000000) }
     ensures { GivesField result (laws_in places total (view value.now)) }

@@ -12,6 +12,7 @@ mod limits;
 mod lots;
 mod news;
 mod numbers;
+mod read;
 mod serial;
 
 pub use fault::{FieldErr, FieldFault, InstanceErr, InstanceFault, Key, KeyList};

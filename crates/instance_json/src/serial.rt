@@ -8,7 +8,8 @@ ghost use Rattle.instance_json.specs.Serials.{serial_of, cap_and_starts_of, seri
 use crate::fault::InstanceErr;
 use crate::fields::is_start;
 use crate::keys::{
-    amount_at, amounts_at, count_at, count_or_none, discount_or_one, has_keys, in_range, laws_at, rates_or_zero, start_at,
+    amount_at, amounts_at, count_at, count_or_none, discount_or_one, has_keys, in_range, laws_at,
+    rates_or_zero, start_at,
 };
 use crate::limits::{MOST_CAP, MOST_ECHELONS, MOST_PERIODS, MOST_RATE, MOST_TOTAL};
 use decision_model::{Positions, Serial};
@@ -20,12 +21,19 @@ pub fn serial_keys(alloc: Global, object: &Value) -> Result<(), InstanceErr>
     ensures { Gives result (has_keys serial_needed serial_known (view object.now)) }
 {
     let needed = ["periods", "holding", "stockout", "demand", "cap", "start"];
-    let known = ["kind", "periods", "holding", "unit", "stockout", "discount", "total", "demand", "cap", "start"];
+    let known = [
+        "kind", "periods", "holding", "unit", "stockout", "discount", "total", "demand", "cap",
+        "start",
+    ];
     has_keys(alloc, object, &needed, &known)
 }
 
 // The greatest echelon stock, and one start an echelon that never falls and is at most that.
-fn cap_and_starts(alloc: Global, object: &Value, echelons: usize) -> Result<(i64, Positions), InstanceErr>
+fn cap_and_starts(
+    alloc: Global,
+    object: &Value,
+    echelons: usize,
+) -> Result<(i64, Positions), InstanceErr>
     ensures { Gives result (cap_and_starts_of echelons (view object.now)) }
 {
     let cap = amount_at(alloc, object, "cap", 0, MOST_CAP)?;

@@ -1,0 +1,16 @@
+use Rattle.std.proofs.Common.{rules}
+use Rattle.instance_json.specs.Reads.{serial_in}
+use Rattle.instance_json.proofs.Chained.{gives_refused, gives_rest, taken}
+use Rattle.instance_json.proofs.read.serial_in.Goals as goal
+
+pub returns-in_err-serial_keys : goal.returns-in_err-serial_keys
+unfolding serial_in
+returns-in_err-serial_keys c = search (rules, gives_refused, gives_rest)
+
+pub returns-in_err-item : goal.returns-in_err-item
+unfolding serial_in
+returns-in_err-item c = search (rules, gives_refused, gives_rest)
+
+pub returns : goal.returns
+unfolding serial_in
+returns c = search (rules, taken)
