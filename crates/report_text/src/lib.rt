@@ -1,9 +1,12 @@
 //! What `stock` prints of its instances, and the messages of its refusals.
 #![tactic(auto)]
 
+mod demand;
 mod faults;
+mod laws;
 mod pieces;
 #[cfg(test)]
 mod tests;
 
+pub use demand::demand_text;
 pub use faults::{Fault, fault_text};
