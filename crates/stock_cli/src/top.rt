@@ -1,8 +1,10 @@
 // The top call.
 ghost use Rattle.std.specs.Prelude.{◌≡◌, ◌≢◌, ◌⊎◌, ◌≤◌, ℕ, List, [], ◌∷◌, codes, None, Some, Ok, Err, IfOk, IfErr, OnOk, IfSome, IsOk, IsSome};
 ghost use Rattle.std.specs.Io.KnownBytes.{Appends, IsAtEnd, Keeps};
+ghost use Rattle.decision_model.specs.Kind.{kind_of};
 ghost use Rattle.decision_model.specs.Valid.{IsValid};
 ghost use Rattle.instance_json.specs.Reads.{reads};
+ghost use Rattle.report_text.specs.Demand.{demand_text_of};
 ghost use Rattle.stock_edge.specs.Causes.{Rose, AppendsPrefix};
 ghost use Rattle.stock_cli.specs.Outcome.{solve_outcome, demand_outcome, instance_outcome, reading_outcome, outcome_of, status_of_outcome, text_of};
 ghost use Rattle.stock_cli.specs.Report.{IsReport, IsReportOn};
@@ -13,7 +15,7 @@ ghost use Rattle.stock_cli.specs.Words.{command_of};
 use crate::report::report;
 use crate::status::{Status, status_for};
 use crate::words::{Command, read_command};
-use decision_model::{Instance, kind};
+use decision_model::{Instance, Kind, kind};
 use fraction128::{Memory, Text};
 use instance_json::{InstanceErr, InstanceFault, read_instance};
 use report_text::{Fault, demand_text, fault_text};
@@ -37,17 +39,30 @@ fn solve(alloc: Global, item: &Instance) -> Result<Text, Fault>
     }
 }
 
+// The laws of demand of an instance that has some.
+fn laws(alloc: Global, item: &Instance) -> Result<Text, Fault>
+    requires valid { IsValid item.now }
+    requires not_lots { kind_of item.now ≢ Kind.Lots }
+    ensures ok { IfOk result (λ text. text ≡ demand_text_of item.now) }
+    ensures err { IfErr result (λ e. e ≡ Fault.Memory) }
+{
+    match demand_text(alloc, item) {
+        Ok(text) => Ok(text),
+        Err(Memory) => Err(Fault::Memory),
+    }
+}
+
 fn demand(alloc: Global, item: &Instance) -> Result<Text, Fault>
     requires { IsValid item.now }
     ensures ok { IfOk result (λ text. demand_outcome item.now ≡ Ok text) }
     ensures err { IfErr result (λ e. (e ≡ Fault.Memory) ⊎ (demand_outcome item.now ≡ Err e)) }
 {
-    if let Instance::Lots(_) = item {
-        return Err(Fault::NotThisCommand(kind(item)));
-    }
-    match demand_text(alloc, item) {
-        Ok(text) => Ok(text),
-        Err(Memory) => Err(Fault::Memory),
+    match item {
+        Instance::Lots(_) => Err(Fault::NotThisCommand(kind(item))),
+        Instance::News(_) => laws(alloc, item),
+        Instance::Finite(_) => laws(alloc, item),
+        Instance::Average(_) => laws(alloc, item),
+        Instance::Serial(_) => laws(alloc, item),
     }
 }
 
@@ -159,7 +174,7 @@ pub fn stock<I: Source, O: Sink, E: Sink>(
     // Done after `solve` names the first level of least cost, and the input was read to its end.
     ensures level { result ≡ Status.Done → command_of words.now ≡ Some Command.Solve
         → IfSome (I.left input.old) (λ bytes.
-            (text : List ℕ) × IsReport bytes text × Appends (O.written out.old) (O.written out.new) text) }
+        (text : List ℕ) × IsReport bytes text × Appends (O.written out.old) (O.written out.new) text) }
     ensures end { result ≡ Status.Done → IsAtEnd (I.left input.new) }
 
     // What stands on `err`.
