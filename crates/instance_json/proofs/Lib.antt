@@ -19,3 +19,4 @@ pub mod BackFields
 pub mod BackAverage
 pub mod BackFinite
 pub mod BackSerial
+pub mod BackInstance

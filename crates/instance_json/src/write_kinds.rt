@@ -2,6 +2,7 @@
 ghost use Rattle.std.specs.Prelude.{◌≡◌, [], ◌++◌, map, IfOk, OnOk};
 ghost use Rattle.serde_json.specs.Data.{string, put as with_member};
 ghost use Rattle.serde_json.specs.View.{view, members_view};
+ghost use Rattle.newsvendor.specs.Item.{IsNewsvendor};
 ghost use Rattle.instance_json.specs.WrittenValues.{amount_data};
 ghost use Rattle.instance_json.specs.WrittenKinds.{put_all, listed, with_most, finite_to_lead, finite_from_periods, newsvendor_data, lots_data, finite_data, average_data, serial_data};
 
@@ -42,7 +43,8 @@ fn put_text(
 
 #[tactic(auto, unfolding(crate::specs::WrittenKinds::newsvendor_data))]
 pub fn newsvendor_value(alloc: Global, item: &Newsvendor) -> Result<Value, AllocError>
-    ensures { IfOk result (λ v. view v ≡ newsvendor_data item.now) }
+    ensures value { IfOk result (λ v. view v ≡ newsvendor_data item.now) }
+    ensures typed { IsNewsvendor item.now }
 {
     let demand = law_value(alloc, &item.law)?;
     let mut members = Map::new(alloc);
