@@ -12,11 +12,13 @@ mod limits;
 mod lots;
 mod news;
 mod numbers;
-mod write;
-mod write_kinds;
-mod write_values;
 mod read;
 mod serial;
+mod write;
+mod write_kinds;
+#[cfg(test)]
+mod write_tests;
+mod write_values;
 
 pub use fault::{FieldErr, FieldFault, InstanceErr, InstanceFault, Key, KeyList};
 pub use write::write_instance;
