@@ -1,6 +1,7 @@
 // The finite-horizon instance that an object says.
-ghost use Rattle.std.specs.Prelude.{◌≡◌, ◌≤◌};
+ghost use Rattle.std.specs.Prelude.{IfOk};
 ghost use Rattle.serde_json.specs.View.{view};
+ghost use Rattle.decision_model.specs.Finite.{IsReadableFinite};
 ghost use Rattle.instance_json.specs.Faults.{Gives};
 ghost use Rattle.instance_json.specs.Keys.{has_keys};
 ghost use Rattle.instance_json.specs.Horizons.{finite_of, finite_costs_of, cap_and_start_of, finite_needed, finite_known};
@@ -93,7 +94,8 @@ fn widened(number: Option<u32>) -> Option<u64>
 
 /// The values of the keys, in the order of the table.
 pub fn finite(alloc: Global, object: &Value) -> Result<Finite, InstanceErr>
-    ensures { Gives result (finite_of (view object.now)) }
+    ensures value { Gives result (finite_of (view object.now)) }
+    ensures readable { IfOk result IsReadableFinite }
 {
     let periods = count_at(alloc, object, "periods", 1, MOST_PERIODS)?;
     let lead = count_or_zero(alloc, object, "lead", MOST_LEAD)?;

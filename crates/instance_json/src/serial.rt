@@ -1,6 +1,7 @@
 // The serial system that an object says.
-ghost use Rattle.std.specs.Prelude.{◌≡◌, ◌≤◌};
+ghost use Rattle.std.specs.Prelude.{IfOk};
 ghost use Rattle.serde_json.specs.View.{view};
+ghost use Rattle.decision_model.specs.Serial.{IsReadableSerial};
 ghost use Rattle.instance_json.specs.Faults.{Gives};
 ghost use Rattle.instance_json.specs.Keys.{has_keys};
 ghost use Rattle.instance_json.specs.Serials.{serial_of, cap_and_starts_of, serial_needed, serial_known};
@@ -44,7 +45,8 @@ fn cap_and_starts(
 
 /// The values of the keys, in the order of the table.
 pub fn serial(alloc: Global, object: &Value) -> Result<Serial, InstanceErr>
-    ensures { Gives result (serial_of (view object.now)) }
+    ensures value { Gives result (serial_of (view object.now)) }
+    ensures readable { IfOk result IsReadableSerial }
 {
     let periods = count_at(alloc, object, "periods", 1, MOST_PERIODS)?;
     let holding = amounts_at(alloc, object, "holding", MOST_RATE, 1, MOST_ECHELONS)?;
