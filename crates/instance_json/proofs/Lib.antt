@@ -6,3 +6,5 @@ pub mod Made
 pub mod LawSum
 pub mod Scaled
 pub mod Values
+pub mod Starts
+pub mod Validity

@@ -13,6 +13,8 @@ mod lots;
 mod news;
 mod numbers;
 mod read;
+mod rules;
 mod serial;
 
 pub use fault::{FieldErr, FieldFault, InstanceErr, InstanceFault, Key, KeyList};
+pub use read::read_instance;

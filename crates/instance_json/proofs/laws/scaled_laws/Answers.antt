@@ -1,7 +1,7 @@
 use Rattle.std.proofs.Common.{◌≡◌, ℕ, List, ◌+◌, ◌<◌, ◌++◌, length, map, drop, sum, All, Some, Ok, sym, ap, subst, ◌∙◌, arith, rules, length-append}
 use Rattle.std.proofs.lemmas.List.Elements.{All-push}
 use Rattle.serde_json.specs.View.{view}
-use Rattle.decision_model.specs.DemandLaws.{IsDemandLaw}
+use Rattle.decision_model.specs.DemandLaws.{IsDemandLaw, common_total}
 use Rattle.instance_json.specs.Steps.{◌>>=◌}
 use Rattle.instance_json.specs.LawTexts.{scaled_laws}
 use Rattle.instance_json.proofs.Scaled.{scaled_more, common_more, common_of}
@@ -25,4 +25,5 @@ loop-value-preserved c =
     }
 
 pub returns-clause-common : goal.returns-clause-common
-returns-clause-common c = common_of _ _ c.loop-value.invariant.common
+returns-clause-common c =
+    subst (λ (laws : List (List ℕ)). All (λ law. sum law ≡ common_total laws) laws) (sym c.new.ensures) (common_of _ _ c.loop-value.invariant.common)
