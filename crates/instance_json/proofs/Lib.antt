@@ -20,3 +20,5 @@ pub mod BackAverage
 pub mod BackFinite
 pub mod BackSerial
 pub mod BackInstance
+pub mod Starts
+pub mod Validity

@@ -13,6 +13,7 @@ mod lots;
 mod news;
 mod numbers;
 mod read;
+mod rules;
 mod serial;
 mod write;
 mod write_kinds;
@@ -21,4 +22,5 @@ mod write_tests;
 mod write_values;
 
 pub use fault::{FieldErr, FieldFault, InstanceErr, InstanceFault, Key, KeyList};
+pub use read::read_instance;
 pub use write::write_instance;
