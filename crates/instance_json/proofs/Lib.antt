@@ -19,3 +19,6 @@ pub mod BackFields
 pub mod BackAverage
 pub mod BackFinite
 pub mod BackSerial
+pub mod BackInstance
+pub mod Starts
+pub mod Validity

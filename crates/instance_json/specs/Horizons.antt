@@ -1,6 +1,7 @@
 -- The finite-horizon instance that an object says.
-use Rattle.std.specs.Prelude.{ℕ, ◌+◌, ℤ, pos, List, [], ◌∷◌, codes, int_le, None, Result, Ok}
+use Rattle.std.specs.Prelude.{ℕ, ◌+◌, ◌≤◌, ℤ, pos, List, [], ◌∷◌, codes, int_le, None, Result, Ok}
 use Rattle.decision_model.specs.declared.instance.Finite.{Finite}
+use Rattle.decision_model.specs.Rates.{IsRate}
 use Rattle.serde_json.specs.Data.{Data}
 use Rattle.instance_json.specs.declared.fault.InstanceFault.{InstanceFault}
 use Rattle.instance_json.specs.Steps.{◌>>=◌}
@@ -16,6 +17,15 @@ finite_needed = codes "periods" ∷ codes "holding" ∷ codes "stockout" ∷ cod
 
 abbrev pub finite_known : List (List ℕ)
 finite_known = codes "kind" ∷ codes "periods" ∷ codes "lead" ∷ codes "setup" ∷ codes "unit" ∷ codes "holding" ∷ codes "stockout" ∷ codes "end_holding" ∷ codes "end_stockout" ∷ codes "discount" ∷ codes "most" ∷ codes "total" ∷ codes "demand" ∷ codes "cap" ∷ codes "start" ∷ []
+
+-- the cost rates in range
+pub record AreCostRates (costs : FiniteCosts) : Type 0 where
+  pub setup : costs.setup ≤ 1000000000
+  pub unit : IsRate costs.unit
+  pub holding : IsRate costs.holding
+  pub stockout : IsRate costs.stockout
+  pub end_holding : IsRate costs.end_holding
+  pub end_stockout : IsRate costs.end_stockout
 
 -- the cost rates
 unfoldable pub finite_costs_of : Data → Result FiniteCosts InstanceFault

@@ -13,4 +13,5 @@ pub mod News
 pub mod Averages
 pub mod Horizons
 pub mod Serials
+pub mod Rules
 pub mod Reads

@@ -11,6 +11,7 @@ use Rattle.decision_model.specs.declared.instance.Instance.TheVariants.{News, Lo
 use Rattle.instance_json.specs.declared.fault.InstanceFault.{InstanceFault}
 use Rattle.instance_json.specs.declared.fault.InstanceFault.TheVariants.{NotJson, UnknownKind, NotBuilt}
 use Rattle.instance_json.specs.Steps.{◌>>=◌}
+use Rattle.instance_json.specs.Rules.{rules_of}
 use Rattle.instance_json.specs.Keys.{has_keys}
 use Rattle.instance_json.specs.News.{newsvendor_needed, newsvendor_known, newsvendor_of}
 use Rattle.instance_json.specs.Lots.{lots_needed, lots_known, lots_of}
@@ -88,3 +89,10 @@ instance_in d = of_kind (kind_in d) d
 -- the instance that bytes say, its rules over several keys aside
 unfoldable pub fields_in : List ℕ → Result Instance InstanceFault
 fields_in bytes = value_in bytes >>= instance_in
+
+-- the instance that bytes say, or their first fault
+unfoldable pub reads : List ℕ → Result Instance InstanceFault
+reads bytes = do
+  item ← fields_in bytes
+  _ ← rules_of item
+  Ok item

@@ -1,6 +1,7 @@
 // The average-cost instance that an object says.
-ghost use Rattle.std.specs.Prelude.{◌≡◌, ◌≤◌};
+ghost use Rattle.std.specs.Prelude.{IfOk};
 ghost use Rattle.serde_json.specs.View.{view};
+ghost use Rattle.decision_model.specs.Average.{IsReadableAverage};
 ghost use Rattle.instance_json.specs.Faults.{Gives};
 ghost use Rattle.instance_json.specs.Keys.{has_keys};
 ghost use Rattle.instance_json.specs.Averages.{average_of, average_needed, average_known};
@@ -28,7 +29,8 @@ pub fn average_keys(alloc: Global, object: &Value) -> Result<(), InstanceErr>
 
 /// The values of the keys, in the order of the table.
 pub fn average(alloc: Global, object: &Value) -> Result<Average, InstanceErr>
-    ensures { Gives result (average_of (view object.now)) }
+    ensures value { Gives result (average_of (view object.now)) }
+    ensures readable { IfOk result IsReadableAverage }
 {
     let lead = count_or_zero(alloc, object, "lead", MOST_LEAD)?;
     let setup = amount_or_zero(alloc, object, "setup", MOST_SETUP)?;

@@ -1,9 +1,10 @@
 // Values of single keys: a discount, a policy, the positions of a serial system.
-ghost use Rattle.std.specs.Prelude.{◌≡◌};
+ghost use Rattle.std.specs.Prelude.{◌≡◌, ◌≤◌, IfOk};
 ghost use Rattle.std.specs.List.{list_all};
 ghost use Rattle.std.specs.Prelude.{int_le};
 ghost use Rattle.serde_json.specs.View.{view};
 ghost use Rattle.serde_json.specs.Find.{at};
+ghost use Rattle.decision_model.specs.Rates.{IsDiscount};
 ghost use Rattle.instance_json.specs.Positions.{rises_from, is_start};
 ghost use Rattle.instance_json.specs.Fields.{part_of, discount_in, policy_in};
 
@@ -14,7 +15,9 @@ use crate::numbers::count;
 use serde_json::Value;
 
 fn part(value: &Value, place: usize, most: u32) -> Result<u32, FieldFault>
-    ensures { result ≡ part_of most (at place (view value.now)) }
+    ensures value { result ≡ part_of most (at place (view value.now)) }
+    ensures least { IfOk result (λ number. 1 ≤ number) }
+    ensures most { IfOk result (λ number. number ≤ most) }
 {
     match value.get(place) {
         Some(number) => count(number, 1, most),
@@ -24,7 +27,8 @@ fn part(value: &Value, place: usize, most: u32) -> Result<u32, FieldFault>
 
 /// The numbers a and b of a discount a/b.
 pub fn discount(value: &Value) -> Result<(u32, u32), FieldFault>
-    ensures { result ≡ discount_in (view value.now) }
+    ensures value { result ≡ discount_in (view value.now) }
+    ensures range { IfOk result (λ ratio. IsDiscount ratio.0 ratio.1) }
 {
     if !is_tuple(NumberTest::Whole, 2, value) {
         return Err(FieldFault::WrongType);

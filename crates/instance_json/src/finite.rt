@@ -1,9 +1,11 @@
 // The finite-horizon instance that an object says.
-ghost use Rattle.std.specs.Prelude.{◌≡◌, ◌≤◌};
+ghost use Rattle.std.specs.Prelude.{◌≡◌, ◌≤ℤ◌, IfOk};
 ghost use Rattle.serde_json.specs.View.{view};
+ghost use Rattle.decision_model.specs.Finite.{IsReadableFinite};
+ghost use Rattle.decision_model.specs.Positions.{IsCap, IsPosition};
 ghost use Rattle.instance_json.specs.Faults.{Gives};
 ghost use Rattle.instance_json.specs.Keys.{has_keys};
-ghost use Rattle.instance_json.specs.Horizons.{finite_of, finite_costs_of, cap_and_start_of, finite_needed, finite_known};
+ghost use Rattle.instance_json.specs.Horizons.{finite_of, AreCostRates, finite_costs_of, cap_and_start_of, finite_needed, finite_known};
 
 use crate::fault::InstanceErr;
 use crate::keys::{
@@ -54,7 +56,8 @@ pub struct FiniteCosts {
 }
 
 fn finite_costs(alloc: Global, object: &Value) -> Result<FiniteCosts, InstanceErr>
-    ensures { Gives result (finite_costs_of (view object.now)) }
+    ensures value { Gives result (finite_costs_of (view object.now)) }
+    ensures range { IfOk result AreCostRates }
 {
     let setup = amount_or_zero(alloc, object, "setup", MOST_SETUP)?;
     let unit = amount_or_zero(alloc, object, "unit", MOST_RATE)?;
@@ -74,7 +77,10 @@ fn finite_costs(alloc: Global, object: &Value) -> Result<FiniteCosts, InstanceEr
 
 // The greatest position, and a start that is at most that.
 fn cap_and_start(alloc: Global, object: &Value) -> Result<(i64, i64), InstanceErr>
-    ensures { Gives result (cap_and_start_of (view object.now)) }
+    ensures value { Gives result (cap_and_start_of (view object.now)) }
+    ensures cap { IfOk result (λ range. IsCap range.0) }
+    ensures start { IfOk result (λ range. IsPosition range.1) }
+    ensures below { IfOk result (λ range. range.1 ≤ℤ range.0) }
 {
     let cap = amount_at(alloc, object, "cap", 0, MOST_CAP)?;
     let start = position_at(alloc, object, "start")?;
@@ -93,7 +99,8 @@ fn widened(number: Option<u32>) -> Option<u64>
 
 /// The values of the keys, in the order of the table.
 pub fn finite(alloc: Global, object: &Value) -> Result<Finite, InstanceErr>
-    ensures { Gives result (finite_of (view object.now)) }
+    ensures value { Gives result (finite_of (view object.now)) }
+    ensures readable { IfOk result IsReadableFinite }
 {
     let periods = count_at(alloc, object, "periods", 1, MOST_PERIODS)?;
     let lead = count_or_zero(alloc, object, "lead", MOST_LEAD)?;

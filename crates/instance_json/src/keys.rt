@@ -1,9 +1,12 @@
 // The keys of an object, and the values under them.
-ghost use Rattle.std.specs.Prelude.{◌≡◌, map, Ok, Err, MatchResult, IfOk, IfErr, IfSome, codes, sum, length, false, ◌≤◌, Some, None, replicate};
+ghost use Rattle.std.specs.Prelude.{◌≡◌, map, Ok, Err, MatchResult, IfOk, OnOk, IfErr, IfSome, IsTrue, All, codes, length, false, ◌≤◌, Some, None, replicate};
 ghost use Rattle.std.specs.List.{list_any};
 ghost use Rattle.std.specs.Str.{bytes_eq};
 ghost use Rattle.serde_json.specs.View.{view};
 ghost use Rattle.serde_json.specs.Find.{as_object};
+ghost use Rattle.decision_model.specs.Positions.{IsPosition};
+ghost use Rattle.decision_model.specs.Rates.{IsDiscount};
+ghost use Rattle.decision_model.specs.DemandLaws.{IsDemandLaw, AreDemandLaws};
 ghost use Rattle.instance_json.specs.Faults.{Gives, MatchErr, top_key};
 ghost use Rattle.instance_json.specs.Numbers.{amount_in, some_amount_in, position_in, rates_in, some_amounts_in, start_positions_in};
 ghost use Rattle.instance_json.specs.LawTexts.{law_in, laws_in};
@@ -57,7 +60,8 @@ pub fn amount_or_zero(
     name: &str,
     most: u64,
 ) -> Result<u64, InstanceErr>
-    ensures { Gives result (optional (amount_in 0 most) 0 name.now (view object.now)) }
+    ensures value { Gives result (optional (amount_in 0 most) 0 name.now (view object.now)) }
+    ensures most { IfOk result (λ number. number ≤ most) }
 {
     let Some(value) = object.get(name) else {
         return Ok(0);
@@ -70,7 +74,8 @@ pub fn amount_or_zero(
 
 // A required key, whose value is a position.
 pub fn position_at(alloc: Global, object: &Value, name: &str) -> Result<i64, InstanceErr>
-    ensures { Gives result (required position_in name.now (view object.now)) }
+    ensures value { Gives result (required position_in name.now (view object.now)) }
+    ensures range { IfOk result IsPosition }
 {
     let Some(value) = object.get(name) else {
         return Err(missing(alloc, name));
@@ -89,7 +94,9 @@ pub fn rates_at(
     most: u64,
     places: usize,
 ) -> Result<Amounts, InstanceErr>
-    ensures { Gives result (required (rates_in most places) name.now (view object.now)) }
+    ensures value { Gives result (required (rates_in most places) name.now (view object.now)) }
+    ensures range { IfOk result (All (λ rate. rate ≤ most)) }
+    ensures places { IfOk result (λ list. length list ≡ places) }
 {
     let Some(value) = object.get(name) else {
         return Err(missing(alloc, name));
@@ -119,7 +126,9 @@ pub fn rates_or_zero(
     most: u64,
     places: usize,
 ) -> Result<Amounts, InstanceErr>
-    ensures { Gives result (optional (rates_in most places) (replicate places 0) name.now (view object.now)) }
+    ensures value { Gives result (optional (rates_in most places) (replicate places 0) name.now (view object.now)) }
+    ensures range { IfOk result (All (λ rate. rate ≤ most)) }
+    ensures places { IfOk result (λ list. length list ≡ places) }
 {
     let Some(value) = object.get(name) else {
         return zeros(alloc, places);
@@ -139,7 +148,10 @@ pub fn amounts_at(
     least: usize,
     most: usize,
 ) -> Result<Amounts, InstanceErr>
-    ensures { Gives result (required (some_amounts_in most_each least most) name.now (view object.now)) }
+    ensures value { Gives result (required (some_amounts_in most_each least most) name.now (view object.now)) }
+    ensures range { IfOk result (All (λ number. number ≤ most_each)) }
+    ensures least { IfOk result (λ list. least ≤ length list) }
+    ensures most { IfOk result (λ list. length list ≤ most) }
 {
     let Some(value) = object.get(name) else {
         return Err(missing(alloc, name));
@@ -158,7 +170,9 @@ pub fn count_at(
     least: u32,
     most: u32,
 ) -> Result<u32, InstanceErr>
-    ensures { Gives result (required (amount_in least most) name.now (view object.now)) }
+    ensures value { Gives result (required (amount_in least most) name.now (view object.now)) }
+    ensures least { IfOk result (λ number. least ≤ number) }
+    ensures most { IfOk result (λ number. number ≤ most) }
 {
     let Some(value) = object.get(name) else {
         return Err(missing(alloc, name));
@@ -176,7 +190,8 @@ pub fn count_or_zero(
     name: &str,
     most: u32,
 ) -> Result<u32, InstanceErr>
-    ensures { Gives result (optional (amount_in 0 most) 0 name.now (view object.now)) }
+    ensures value { Gives result (optional (amount_in 0 most) 0 name.now (view object.now)) }
+    ensures most { IfOk result (λ number. number ≤ most) }
 {
     let Some(value) = object.get(name) else {
         return Ok(0);
@@ -214,7 +229,9 @@ pub fn start_at(
     name: &str,
     places: usize,
 ) -> Result<Positions, InstanceErr>
-    ensures { Gives result (required (start_positions_in places) name.now (view object.now)) }
+    ensures value { Gives result (required (start_positions_in places) name.now (view object.now)) }
+    ensures range { IfOk result (All IsPosition) }
+    ensures places { IfOk result (λ list. length list ≡ places) }
 {
     let Some(value) = object.get(name) else {
         return Err(missing(alloc, name));
@@ -228,8 +245,7 @@ pub fn start_at(
 // A required key, whose value is a law.
 pub fn law_at(alloc: Global, object: &Value, name: &str) -> Result<Law, InstanceErr>
     ensures value { Gives result (required law_in name.now (view object.now)) }
-    ensures total { IfOk result (λ law. sum law ≤ 1000000000) }
-    ensures short { IfOk result (λ law. length law ≤ 10001) }
+    ensures demand { IfOk result IsDemandLaw }
 {
     let Some(value) = object.get(name) else {
         return Err(missing(alloc, name));
@@ -250,7 +266,8 @@ pub fn laws_at(
 ) -> Result<Laws, InstanceErr>
     requires stated { IfSome total (λ n. 1 ≤ n) }
     requires within { IfSome total (λ n. n ≤ 1000000000) }
-    ensures { Gives result (required (laws_in places total) name.now (view object.now)) }
+    ensures value { Gives result (required (laws_in places total) name.now (view object.now)) }
+    ensures demand { IfOk result (λ laws. AreDemandLaws laws places) }
 {
     let Some(value) = object.get(name) else {
         return Err(missing(alloc, name));
@@ -263,7 +280,8 @@ pub fn laws_at(
 
 // The optional discount, 1/1 where it is absent.
 pub fn discount_or_one(alloc: Global, object: &Value) -> Result<(u32, u32), InstanceErr>
-    ensures { Gives result (optional discount_in (1, 1) (codes "discount") (view object.now)) }
+    ensures value { Gives result (optional discount_in (1, 1) (codes "discount") (view object.now)) }
+    ensures range { IfOk result (λ ratio. IsDiscount ratio.0 ratio.1) }
 {
     let Some(value) = object.get("discount") else {
         return Ok((1, 1));
@@ -289,7 +307,8 @@ pub fn policy_or_default(alloc: Global, object: &Value) -> Result<bool, Instance
 
 // A key's value is out of range where this doesn't hold.
 pub fn in_range(alloc: Global, name: &str, holds: bool) -> Result<(), InstanceErr>
-    ensures { Gives result (in_range name.now holds) }
+    ensures value { Gives result (in_range name.now holds) }
+    ensures holds { OnOk result (IsTrue holds) }
 {
     if holds {
         return Ok(());

@@ -1,8 +1,9 @@
 // Laws of demand, read from values and brought to one sum of weights.
-ghost use Rattle.std.specs.Prelude.{◌≡◌, ◌≤◌, Some, None, Ok, Err, map, length, sum, IfOk, IfSome, MatchResult};
+ghost use Rattle.std.specs.Prelude.{◌≡◌, ◌≤◌, All, Some, None, Ok, Err, map, length, sum, IfOk, IfSome, MatchResult};
 ghost use Rattle.std.specs.List.{list_all};
 ghost use Rattle.serde_json.specs.View.{view};
 ghost use Rattle.demand_law.specs.Named.{rescale_fault, rescaled_law};
+ghost use Rattle.decision_model.specs.DemandLaws.{IsDemandLaw, AreDemandLaws, common_total};
 ghost use Rattle.instance_json.specs.Faults.{GivesField};
 ghost use Rattle.instance_json.specs.LawTexts.{is_law, all_laws, law_in, made as made_of, common_sum, scaled_law, scaled_laws, one_law, laws_each, laws_in};
 
@@ -44,12 +45,13 @@ fn check_laws(list: &[Value]) -> Result<(), FieldFault>
 /// The law that a value says.
 pub fn law(alloc: Global, value: &Value) -> Result<Law, FieldErr>
     ensures value { GivesField result (law_in (view value.now)) }
-    ensures total { IfOk result (λ law. sum law ≤ 1000000000) }
-    ensures short { IfOk result (λ law. length law ≤ 10001) }
+    ensures demand { IfOk result IsDemandLaw }
 {
     let one = slice::from_ref(value);
     check_laws(one)?;
-    law_of(alloc, value)
+    let law = law_of(alloc, value)?;
+    prove!(!law.weights().is_empty());
+    Ok(law)
 }
 
 // The sum that all laws get: the stated total, or the sum of the first law.
@@ -60,6 +62,7 @@ fn common_sum(total: Option<u32>, law: &Law) -> u32
     ensures value { result ≡ common_sum total law.now }
     ensures some { 1 ≤ result }
     ensures most { result ≤ 1000000000 }
+    ensures keeps { IfSome total (λ n. result ≡ n) }
 {
     match total {
         Some(total) => total,
@@ -81,7 +84,9 @@ fn sum_of(law: &Law) -> u32
 fn rescaled(alloc: Global, law: &Law, total: u32) -> Result<Law, FieldErr>
     requires some { 1 ≤ total }
     requires most { total ≤ 1000000000 }
-    ensures { GivesField result (made_of (rescale_fault law.now total) (rescaled_law law.now total)) }
+    ensures value { GivesField result (made_of (rescale_fault law.now total) (rescaled_law law.now total)) }
+    ensures total { IfOk result (λ multiple. sum multiple ≡ total) }
+    ensures short { IfOk result (λ multiple. length multiple ≡ length law.now) }
 {
     made(Law::rescale(alloc, law, total))
 }
@@ -93,10 +98,14 @@ fn scaled_law(alloc: Global, value: &Value, total: Option<u32>) -> Result<(Law, 
     ensures value { GivesField result (scaled_law total (view value.now)) }
     ensures some { IfOk result (λ scaled. 1 ≤ scaled.1) }
     ensures most { IfOk result (λ scaled. scaled.1 ≤ 1000000000) }
+    ensures keeps { IfOk result (λ scaled. IfSome total (λ n. scaled.1 ≡ n)) }
+    ensures sum { IfOk result (λ scaled. sum scaled.0 ≡ scaled.1) }
+    ensures demand { IfOk result (λ scaled. IsDemandLaw scaled.0) }
 {
     let law = law_of(alloc, value)?;
     let sum = common_sum(total, &law);
     let scaled = rescaled(alloc, &law, sum)?;
+    prove!(!scaled.weights().is_empty());
     Ok((scaled, sum))
 }
 
@@ -104,7 +113,10 @@ fn scaled_law(alloc: Global, value: &Value, total: Option<u32>) -> Result<(Law, 
 fn scaled_laws(alloc: Global, list: &[Value], total: Option<u32>) -> Result<Laws, FieldErr>
     requires stated { IfSome total (λ n. 1 ≤ n) }
     requires within { IfSome total (λ n. n ≤ 1000000000) }
-    ensures { GivesField result (scaled_laws total (map view list.now)) }
+    ensures value { GivesField result (scaled_laws total (map view list.now)) }
+    ensures each { IfOk result (All IsDemandLaw) }
+    ensures common { IfOk result (λ laws. All (λ law. sum law ≡ common_total laws) laws) }
+    ensures places { IfOk result (λ laws. length laws ≡ length list.now) }
 {
     let mut laws = Vec::new(alloc);
     let mut common = total;
@@ -120,7 +132,8 @@ fn scaled_laws(alloc: Global, list: &[Value], total: Option<u32>) -> Result<Laws
 fn one_law(alloc: Global, value: &Value, total: Option<u32>) -> Result<Laws, FieldErr>
     requires stated { IfSome total (λ n. 1 ≤ n) }
     requires within { IfSome total (λ n. n ≤ 1000000000) }
-    ensures { GivesField result (one_law total (view value.now)) }
+    ensures value { GivesField result (one_law total (view value.now)) }
+    ensures demand { IfOk result (λ laws. AreDemandLaws laws 1) }
 {
     let one = slice::from_ref(value);
     check_laws(one)?;
@@ -136,7 +149,8 @@ fn law_each(
 ) -> Result<Laws, FieldErr>
     requires stated { IfSome total (λ n. 1 ≤ n) }
     requires within { IfSome total (λ n. n ≤ 1000000000) }
-    ensures { GivesField result (laws_each places total (map view list.now)) }
+    ensures value { GivesField result (laws_each places total (map view list.now)) }
+    ensures demand { IfOk result (λ laws. AreDemandLaws laws places) }
 {
     check_laws(list)?;
     if list.len() != places {
@@ -154,7 +168,8 @@ pub fn laws(
 ) -> Result<Laws, FieldErr>
     requires stated { IfSome total (λ n. 1 ≤ n) }
     requires within { IfSome total (λ n. n ≤ 1000000000) }
-    ensures { GivesField result (laws_in places total (view value.now)) }
+    ensures value { GivesField result (laws_in places total (view value.now)) }
+    ensures demand { IfOk result (λ laws. AreDemandLaws laws places) }
 {
     match items(value) {
         Some(list) => law_each(alloc, list, places, total),

@@ -12,11 +12,15 @@ mod limits;
 mod lots;
 mod news;
 mod numbers;
+mod read;
+mod rules;
+mod serial;
 mod write;
 mod write_kinds;
+#[cfg(test)]
+mod write_tests;
 mod write_values;
-mod read;
-mod serial;
 
 pub use fault::{FieldErr, FieldFault, InstanceErr, InstanceFault, Key, KeyList};
+pub use read::read_instance;
 pub use write::write_instance;

@@ -1,6 +1,7 @@
 // The lot sizing that an object says.
-ghost use Rattle.std.specs.Prelude.{◌≡◌};
+ghost use Rattle.std.specs.Prelude.{IfOk};
 ghost use Rattle.serde_json.specs.View.{view};
+ghost use Rattle.decision_model.specs.Lots.{IsReadableLots};
 ghost use Rattle.instance_json.specs.Faults.{Gives};
 ghost use Rattle.instance_json.specs.Keys.{has_keys};
 ghost use Rattle.instance_json.specs.Lots.{lots_of, lots_needed, lots_known};
@@ -23,7 +24,8 @@ pub fn lots_keys(alloc: Global, object: &Value) -> Result<(), InstanceErr>
 
 // The values of the keys, in the order of the table.
 pub fn lots(alloc: Global, object: &Value) -> Result<LotSize, InstanceErr>
-    ensures { Gives result (lots_of (view object.now)) }
+    ensures value { Gives result (lots_of (view object.now)) }
+    ensures readable { IfOk result IsReadableLots }
 {
     let demand = amounts_at(
         alloc,

@@ -1,7 +1,8 @@
 // Whole numbers and lists of them.
-ghost use Rattle.std.specs.Prelude.{◌≡◌, ◌≤◌, map, Ok, Err, IfOk, MatchResult, option_map};
+ghost use Rattle.std.specs.Prelude.{◌≡◌, ◌≤◌, length, map, All, Ok, Err, IfOk, MatchResult, option_map};
 ghost use Rattle.std.specs.List.{list_all};
 ghost use Rattle.serde_json.specs.View.{view};
+ghost use Rattle.decision_model.specs.Positions.{IsPosition};
 ghost use Rattle.instance_json.specs.Steps.{each};
 ghost use Rattle.instance_json.specs.Faults.{GivesField};
 ghost use Rattle.instance_json.specs.Numbers.{is_whole, items_in, all_whole, amount_in, position_in, amounts_in, positions_in, of_length_within, some_amounts_in, start_positions_in, rates_in};
@@ -52,7 +53,8 @@ pub fn count(value: &Value, least: u32, most: u32) -> Result<u32, FieldFault>
 
 // A whole number from -1,000,000 to 1,000,000.
 pub fn position(value: &Value) -> Result<i64, FieldFault>
-    ensures { result ≡ position_in (view value.now) }
+    ensures value { result ≡ position_in (view value.now) }
+    ensures range { IfOk result IsPosition }
 {
     if !is_whole(value) {
         return Err(FieldFault::WrongType);
@@ -82,7 +84,8 @@ fn are_whole(list: &[Value]) -> bool
 }
 
 fn listed_amounts(alloc: Global, list: &[Value], most: u64) -> Result<Amounts, FieldErr>
-    ensures { GivesField result (each (amount_in 0 most) (map view list.now)) }
+    ensures value { GivesField result (each (amount_in 0 most) (map view list.now)) }
+    ensures range { IfOk result (All (λ number. number ≤ most)) }
 {
     let mut numbers = Vec::new(alloc);
     for value in list {
@@ -93,7 +96,8 @@ fn listed_amounts(alloc: Global, list: &[Value], most: u64) -> Result<Amounts, F
 }
 
 fn listed_positions(alloc: Global, list: &[Value]) -> Result<Positions, FieldErr>
-    ensures { GivesField result (each position_in (map view list.now)) }
+    ensures value { GivesField result (each position_in (map view list.now)) }
+    ensures range { IfOk result (All IsPosition) }
 {
     let mut numbers = Vec::new(alloc);
     for value in list {
@@ -130,7 +134,8 @@ fn whole_items(value: &Value) -> Result<&[Value], FieldFault>
 
 // A list of whole numbers from 0 to `most`.
 fn amounts(alloc: Global, value: &Value, most: u64) -> Result<Amounts, FieldErr>
-    ensures { GivesField result (amounts_in most (view value.now)) }
+    ensures value { GivesField result (amounts_in most (view value.now)) }
+    ensures range { IfOk result (All (λ number. number ≤ most)) }
 {
     let list = whole_items(value)?;
     listed_amounts(alloc, list, most)
@@ -138,7 +143,8 @@ fn amounts(alloc: Global, value: &Value, most: u64) -> Result<Amounts, FieldErr>
 
 // A list of positions.
 fn positions(alloc: Global, value: &Value) -> Result<Positions, FieldErr>
-    ensures { GivesField result (positions_in (view value.now)) }
+    ensures value { GivesField result (positions_in (view value.now)) }
+    ensures range { IfOk result (All IsPosition) }
 {
     let list = whole_items(value)?;
     listed_positions(alloc, list)
@@ -146,7 +152,10 @@ fn positions(alloc: Global, value: &Value) -> Result<Positions, FieldErr>
 
 // A list of amounts whose length is from `least` to `most`.
 fn of_length_within(list: Amounts, least: usize, most: usize) -> Result<Amounts, FieldErr>
-    ensures { GivesField result (of_length_within least most list) }
+    ensures value { GivesField result (of_length_within least most list) }
+    ensures same { IfOk result (λ kept. kept ≡ list) }
+    ensures least { IfOk result (λ kept. least ≤ length kept) }
+    ensures most { IfOk result (λ kept. length kept ≤ most) }
 {
     let places = list.as_slice().len();
     if places < least {
@@ -166,7 +175,10 @@ pub fn some_amounts(
     least: usize,
     most: usize,
 ) -> Result<Amounts, FieldErr>
-    ensures { GivesField result (some_amounts_in most_each least most (view value.now)) }
+    ensures value { GivesField result (some_amounts_in most_each least most (view value.now)) }
+    ensures range { IfOk result (All (λ number. number ≤ most_each)) }
+    ensures least { IfOk result (λ list. least ≤ length list) }
+    ensures most { IfOk result (λ list. length list ≤ most) }
 {
     let list = amounts(alloc, value, most_each)?;
     of_length_within(list, least, most)
@@ -174,7 +186,9 @@ pub fn some_amounts(
 
 // One position a place.
 pub fn start_positions(alloc: Global, value: &Value, places: usize) -> Result<Positions, FieldErr>
-    ensures { GivesField result (start_positions_in places (view value.now)) }
+    ensures value { GivesField result (start_positions_in places (view value.now)) }
+    ensures range { IfOk result (All IsPosition) }
+    ensures places { IfOk result (λ list. length list ≡ places) }
 {
     let list = positions(alloc, value)?;
     if list.as_slice().len() != places {
@@ -185,7 +199,9 @@ pub fn start_positions(alloc: Global, value: &Value, places: usize) -> Result<Po
 
 // One rate from 0 to `most` a place, or one that serves every place.
 pub fn rates(alloc: Global, value: &Value, most: u64, places: usize) -> Result<Amounts, FieldErr>
-    ensures { GivesField result (rates_in most places (view value.now)) }
+    ensures value { GivesField result (rates_in most places (view value.now)) }
+    ensures range { IfOk result (All (λ rate. rate ≤ most)) }
+    ensures places { IfOk result (λ list. length list ≡ places) }
 {
     if value.is_array() {
         return some_amounts(alloc, value, most, places, places);

@@ -1,14 +1,16 @@
 // From bytes to the instance that they say.
 ghost use Rattle.std.specs.Prelude.{◌≡◌, Ok, IfOk, IfErr};
 ghost use Rattle.serde_json.specs.View.{view};
+ghost use Rattle.decision_model.specs.Valid.{IsReadable, IsValid};
 ghost use Rattle.instance_json.specs.Faults.{Gives, Refuses};
-ghost use Rattle.instance_json.specs.Reads.{value_in, kind_in, newsvendor_in, lots_in, finite_in, average_in, serial_in, instance_in, fields_in};
+ghost use Rattle.instance_json.specs.Reads.{reads, value_in, kind_in, newsvendor_in, lots_in, finite_in, average_in, serial_in, instance_in, fields_in};
 
 use crate::average::{average, average_keys};
 use crate::fault::{InstanceErr, InstanceFault};
 use crate::finite::{finite, finite_keys};
 use crate::lots::{lots, lots_keys};
 use crate::news::{newsvendor, newsvendor_keys};
+use crate::rules::rules;
 use crate::serial::{serial, serial_keys};
 use decision_model::{Instance, Kind};
 use serde_json::{Category, Value};
@@ -56,7 +58,8 @@ fn kind_in(object: &Value) -> Option<Kind>
 }
 
 fn newsvendor_in(alloc: Global, object: &Value) -> Result<Instance, InstanceErr>
-    ensures { Gives result (newsvendor_in (view object.now)) }
+    ensures value { Gives result (newsvendor_in (view object.now)) }
+    ensures readable { IfOk result IsReadable }
 {
     newsvendor_keys(alloc, object)?;
     let item = newsvendor(alloc, object)?;
@@ -64,7 +67,8 @@ fn newsvendor_in(alloc: Global, object: &Value) -> Result<Instance, InstanceErr>
 }
 
 fn lots_in(alloc: Global, object: &Value) -> Result<Instance, InstanceErr>
-    ensures { Gives result (lots_in (view object.now)) }
+    ensures value { Gives result (lots_in (view object.now)) }
+    ensures readable { IfOk result IsReadable }
 {
     lots_keys(alloc, object)?;
     let item = lots(alloc, object)?;
@@ -72,7 +76,8 @@ fn lots_in(alloc: Global, object: &Value) -> Result<Instance, InstanceErr>
 }
 
 fn finite_in(alloc: Global, object: &Value) -> Result<Instance, InstanceErr>
-    ensures { Gives result (finite_in (view object.now)) }
+    ensures value { Gives result (finite_in (view object.now)) }
+    ensures readable { IfOk result IsReadable }
 {
     finite_keys(alloc, object)?;
     let item = finite(alloc, object)?;
@@ -80,7 +85,8 @@ fn finite_in(alloc: Global, object: &Value) -> Result<Instance, InstanceErr>
 }
 
 fn average_in(alloc: Global, object: &Value) -> Result<Instance, InstanceErr>
-    ensures { Gives result (average_in (view object.now)) }
+    ensures value { Gives result (average_in (view object.now)) }
+    ensures readable { IfOk result IsReadable }
 {
     average_keys(alloc, object)?;
     let item = average(alloc, object)?;
@@ -88,7 +94,8 @@ fn average_in(alloc: Global, object: &Value) -> Result<Instance, InstanceErr>
 }
 
 fn serial_in(alloc: Global, object: &Value) -> Result<Instance, InstanceErr>
-    ensures { Gives result (serial_in (view object.now)) }
+    ensures value { Gives result (serial_in (view object.now)) }
+    ensures readable { IfOk result IsReadable }
 {
     serial_keys(alloc, object)?;
     let item = serial(alloc, object)?;
@@ -97,7 +104,8 @@ fn serial_in(alloc: Global, object: &Value) -> Result<Instance, InstanceErr>
 
 // The instance that an object says, its rules over several keys aside.
 fn instance_in(alloc: Global, object: &Value) -> Result<Instance, InstanceErr>
-    ensures { Gives result (instance_in (view object.now)) }
+    ensures value { Gives result (instance_in (view object.now)) }
+    ensures readable { IfOk result IsReadable }
 {
     match kind_in(object) {
         None => Err(InstanceErr::Bad(InstanceFault::UnknownKind)),
@@ -112,8 +120,26 @@ fn instance_in(alloc: Global, object: &Value) -> Result<Instance, InstanceErr>
 
 // The instance that bytes say, its rules over several keys aside.
 fn fields_in(alloc: Global, bytes: &[u8]) -> Result<Instance, InstanceErr>
-    ensures { Gives result (fields_in bytes.now) }
+    ensures value { Gives result (fields_in bytes.now) }
+    ensures readable { IfOk result IsReadable }
 {
     let value = json(alloc, bytes)?;
     instance_in(alloc, &value)
+}
+
+/// The instance that bytes say, or their first fault.
+///
+/// Faults are looked for in this order: the bytes are no JSON; the value says no kind; a required key is absent; a key
+/// isn't the kind's; the value of a key, in the order of the kind's table, has a wrong shape, a number out of range, a
+/// list of a wrong length or a law that can't be made; a rule over several keys is broken. Of a repeated key the last
+/// counts.
+pub fn read_instance(alloc: Global, bytes: &[u8]) -> Result<Instance, InstanceErr>
+    ensures value { Gives result (reads bytes.now) }
+    ensures valid { IfOk result IsValid }
+{
+    let item = fields_in(alloc, bytes)?;
+    match rules(&item) {
+        Ok(()) => Ok(item),
+        Err(fault) => Err(InstanceErr::Bad(fault)),
+    }
 }

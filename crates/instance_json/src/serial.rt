@@ -1,6 +1,9 @@
 // The serial system that an object says.
-ghost use Rattle.std.specs.Prelude.{◌≡◌, ◌≤◌};
+ghost use Rattle.std.specs.Prelude.{◌≡◌, ◌-◌, ◌≤ℤ◌, pos, length, slice_index_or, All, IfOk};
 ghost use Rattle.serde_json.specs.View.{view};
+ghost use Rattle.std.specs.List.{AllAdjacentBelow};
+ghost use Rattle.decision_model.specs.Positions.{IsCap, IsPosition};
+ghost use Rattle.decision_model.specs.Serial.{IsReadableSerial};
 ghost use Rattle.instance_json.specs.Faults.{Gives};
 ghost use Rattle.instance_json.specs.Keys.{has_keys};
 ghost use Rattle.instance_json.specs.Serials.{serial_of, cap_and_starts_of, serial_needed, serial_known};
@@ -34,7 +37,12 @@ fn cap_and_starts(
     object: &Value,
     echelons: usize,
 ) -> Result<(i64, Positions), InstanceErr>
-    ensures { Gives result (cap_and_starts_of echelons (view object.now)) }
+    ensures value { Gives result (cap_and_starts_of echelons (view object.now)) }
+    ensures cap { IfOk result (λ range. IsCap range.0) }
+    ensures start { IfOk result (λ range. All IsPosition range.1) }
+    ensures places { IfOk result (λ range. length range.1 ≡ echelons) }
+    ensures never_falling { IfOk result (λ range. AllAdjacentBelow (λ x y. x ≤ℤ y) range.1 (length range.1)) }
+    ensures last_below { IfOk result (λ range. slice_index_or range.1 (length range.1 - 1) (pos 0) ≤ℤ range.0) }
 {
     let cap = amount_at(alloc, object, "cap", 0, MOST_CAP)?;
     let start = start_at(alloc, object, "start", echelons)?;
@@ -44,7 +52,8 @@ fn cap_and_starts(
 
 /// The values of the keys, in the order of the table.
 pub fn serial(alloc: Global, object: &Value) -> Result<Serial, InstanceErr>
-    ensures { Gives result (serial_of (view object.now)) }
+    ensures value { Gives result (serial_of (view object.now)) }
+    ensures readable { IfOk result IsReadableSerial }
 {
     let periods = count_at(alloc, object, "periods", 1, MOST_PERIODS)?;
     let holding = amounts_at(alloc, object, "holding", MOST_RATE, 1, MOST_ECHELONS)?;

@@ -1,8 +1,10 @@
 // The JSON text of an instance.
-ghost use Rattle.std.specs.Prelude.{◌≡◌, IfOk, Some};
+ghost use Rattle.std.specs.Prelude.{◌≡◌, IfOk, Some, Ok};
 ghost use Rattle.serde_json.specs.Read.{read};
 ghost use Rattle.serde_json.specs.View.{view};
-ghost use Rattle.instance_json.specs.Written.{instance_data, instance_text};
+ghost use Rattle.decision_model.specs.Valid.{IsReadable};
+ghost use Rattle.instance_json.specs.Reads.{fields_in};
+ghost use Rattle.instance_json.specs.Written.{instance_data, instance_text, IsTyped};
 
 use crate::write_kinds::{average_value, finite_value, lots_value, newsvendor_value, serial_value};
 use decision_model::Instance;
@@ -11,7 +13,8 @@ use serde_json::Value;
 use std::alloc::{AllocError, Global};
 
 fn instance_value(alloc: Global, item: &Instance) -> Result<Value, AllocError>
-    ensures { IfOk result (λ v. view v ≡ instance_data item.now) }
+    ensures value { IfOk result (λ v. view v ≡ instance_data item.now) }
+    ensures typed { IsTyped item.now }
 {
     match item {
         Instance::News(item) => newsvendor_value(alloc, item),
@@ -28,6 +31,7 @@ fn instance_value(alloc: Global, item: &Instance) -> Result<Value, AllocError>
 /// list is a list, a law is its points by ascending demand, and a list of one law is that law.
 pub fn write_instance(alloc: Global, item: &Instance) -> Result<Vec<u8>, Memory>
     ensures text { IfOk result (λ bytes. bytes.items ≡ instance_text item.now) }
+    ensures reads_back { IsReadable item.now → IfOk result (λ bytes. fields_in bytes.items ≡ Ok item.now) }
     ensures is_json { IfOk result (λ bytes. read bytes.items ≡ Some (instance_data item.now)) }
 {
     let Ok(value) = instance_value(alloc, item) else {

@@ -2,10 +2,11 @@
 ghost use Rattle.std.specs.Prelude.{◌≡◌, [], ◌++◌, map, IfOk, OnOk};
 ghost use Rattle.serde_json.specs.Data.{string, put as with_member};
 ghost use Rattle.serde_json.specs.View.{view, members_view};
+ghost use Rattle.newsvendor.specs.Item.{IsNewsvendor};
 ghost use Rattle.instance_json.specs.WrittenValues.{amount_data};
 ghost use Rattle.instance_json.specs.WrittenKinds.{put_all, listed, with_most, finite_to_lead, finite_from_periods, newsvendor_data, lots_data, finite_data, average_data, serial_data};
 
-use crate::write_values::{amounts_value, law_value, laws_value, pair_value, positions_value};
+use crate::write_values::{amounts_value, discount_value, law_value, laws_value, positions_value};
 use decision_model::{Average, Finite, LotSize, Serial};
 use newsvendor::Newsvendor;
 use serde_json::{Map, Value, put};
@@ -42,7 +43,8 @@ fn put_text(
 
 #[tactic(auto, unfolding(crate::specs::WrittenKinds::newsvendor_data))]
 pub fn newsvendor_value(alloc: Global, item: &Newsvendor) -> Result<Value, AllocError>
-    ensures { IfOk result (λ v. view v ≡ newsvendor_data item.now) }
+    ensures value { IfOk result (λ v. view v ≡ newsvendor_data item.now) }
+    ensures typed { IsNewsvendor item.now }
 {
     let demand = law_value(alloc, &item.law)?;
     let mut members = Map::new(alloc);
@@ -98,11 +100,7 @@ fn finite_members(alloc: Global, item: &Finite) -> Result<Map<String, Value>, Al
         ≡ listed (finite_to_lead item.now ++ finite_from_periods item.now)) }
 {
     let demand = laws_value(alloc, item.laws.as_slice())?;
-    let discount = pair_value(
-        alloc,
-        u64::from(item.discount_num),
-        u64::from(item.discount_den),
-    )?;
+    let discount = discount_value(alloc, item.discount_num, item.discount_den)?;
     let mut members = Map::new(alloc);
     put_text(&mut members, alloc, "kind", "finite")?;
     put(&mut members, alloc, "demand", demand)?;
@@ -151,11 +149,7 @@ pub fn serial_value(alloc: Global, item: &Serial) -> Result<Value, AllocError>
     ensures { IfOk result (λ v. view v ≡ serial_data item.now) }
 {
     let demand = laws_value(alloc, item.laws.as_slice())?;
-    let discount = pair_value(
-        alloc,
-        u64::from(item.discount_num),
-        u64::from(item.discount_den),
-    )?;
+    let discount = discount_value(alloc, item.discount_num, item.discount_den)?;
     let holding = amounts_value(alloc, item.holding.as_slice())?;
     let unit = amounts_value(alloc, item.unit.as_slice())?;
     let start = positions_value(alloc, item.start.as_slice())?;

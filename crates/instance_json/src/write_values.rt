@@ -28,10 +28,17 @@ pub fn positions_value(alloc: Global, list: &[i64]) -> Result<Value, AllocError>
 }
 
 // A list of two numbers.
-pub fn pair_value(alloc: Global, first: u64, second: u64) -> Result<Value, AllocError>
+fn pair_value(alloc: Global, first: u64, second: u64) -> Result<Value, AllocError>
     ensures { IfOk result (λ v. view v ≡ pair_data first second) }
 {
     json!(in alloc; [first, second])
+}
+
+// The list of a fraction's numerator and denominator.
+pub fn discount_value(alloc: Global, num: u32, den: u32) -> Result<Value, AllocError>
+    ensures { IfOk result (λ v. view v ≡ pair_data num den) }
+{
+    pair_value(alloc, u64::from(num), u64::from(den))
 }
 
 // A demand and its weight.

@@ -3,42 +3,42 @@ use Rattle.instance_json.specs.Averages.{average_of}
 use Rattle.instance_json.proofs.Chained.{gives_refused, gives_rest, taken}
 use Rattle.instance_json.proofs.average.average.Goals as goal
 
-pub returns-in_err-lead : goal.returns-in_err-lead
+pub returns-in_err-lead-clause-value : goal.returns-in_err-lead-clause-value
 unfolding average_of
-returns-in_err-lead c = search (rules, gives_refused, gives_rest)
+returns-in_err-lead-clause-value c = search (rules, gives_refused, gives_rest)
 
-pub returns-in_err-setup : goal.returns-in_err-setup
+pub returns-in_err-setup-clause-value : goal.returns-in_err-setup-clause-value
 unfolding average_of
-returns-in_err-setup c = search (rules, gives_refused, gives_rest)
+returns-in_err-setup-clause-value c = search (rules, gives_refused, gives_rest)
 
-pub returns-in_err-holding : goal.returns-in_err-holding
+pub returns-in_err-holding-clause-value : goal.returns-in_err-holding-clause-value
 unfolding average_of
-returns-in_err-holding c = search (rules, gives_refused, gives_rest)
+returns-in_err-holding-clause-value c = search (rules, gives_refused, gives_rest)
 
-pub returns-in_err-stockout : goal.returns-in_err-stockout
+pub returns-in_err-stockout-clause-value : goal.returns-in_err-stockout-clause-value
 unfolding average_of
-returns-in_err-stockout c = search (rules, gives_refused, gives_rest)
+returns-in_err-stockout-clause-value c = search (rules, gives_refused, gives_rest)
 
-pub returns-in_err-law : goal.returns-in_err-law
+pub returns-in_err-law-clause-value : goal.returns-in_err-law-clause-value
 unfolding average_of
-returns-in_err-law c = search (rules, gives_refused, gives_rest)
+returns-in_err-law-clause-value c = search (rules, gives_refused, gives_rest)
 
-pub returns-in_err-floor : goal.returns-in_err-floor
+pub returns-in_err-floor-clause-value : goal.returns-in_err-floor-clause-value
 unfolding average_of
-returns-in_err-floor c = search (rules, gives_refused, gives_rest)
+returns-in_err-floor-clause-value c = search (rules, gives_refused, gives_rest)
 
-pub returns-in_err-cap : goal.returns-in_err-cap
+pub returns-in_err-cap-clause-value : goal.returns-in_err-cap-clause-value
 unfolding average_of
-returns-in_err-cap c = search (rules, gives_refused, gives_rest)
+returns-in_err-cap-clause-value c = search (rules, gives_refused, gives_rest)
 
-pub returns-in_err-in_range : goal.returns-in_err-in_range
+pub returns-in_err-in_range-clause-value : goal.returns-in_err-in_range-clause-value
 unfolding average_of
-returns-in_err-in_range c = search (rules, gives_refused, gives_rest)
+returns-in_err-in_range-clause-value c = search (rules, gives_refused, gives_rest)
 
-pub returns-in_err-lots : goal.returns-in_err-lots
+pub returns-in_err-lots-clause-value : goal.returns-in_err-lots-clause-value
 unfolding average_of
-returns-in_err-lots c = search (rules, gives_refused, gives_rest)
+returns-in_err-lots-clause-value c = search (rules, gives_refused, gives_rest)
 
-pub returns : goal.returns
+pub returns-clause-value : goal.returns-clause-value
 unfolding average_of
-returns c = search (rules, taken)
+returns-clause-value c = search (rules, taken)

@@ -3,38 +3,38 @@ use Rattle.instance_json.specs.Horizons.{finite_of}
 use Rattle.instance_json.proofs.Chained.{gives_refused, gives_rest, taken}
 use Rattle.instance_json.proofs.finite.finite.Goals as goal
 
-pub returns-in_err-periods : goal.returns-in_err-periods
+pub returns-in_err-periods-clause-value : goal.returns-in_err-periods-clause-value
 unfolding finite_of
-returns-in_err-periods c = search (rules, gives_refused, gives_rest)
+returns-in_err-periods-clause-value c = search (rules, gives_refused, gives_rest)
 
-pub returns-in_err-lead : goal.returns-in_err-lead
+pub returns-in_err-lead-clause-value : goal.returns-in_err-lead-clause-value
 unfolding finite_of
-returns-in_err-lead c = search (rules, gives_refused, gives_rest)
+returns-in_err-lead-clause-value c = search (rules, gives_refused, gives_rest)
 
-pub returns-in_err-costs : goal.returns-in_err-costs
+pub returns-in_err-costs-clause-value : goal.returns-in_err-costs-clause-value
 unfolding finite_of
-returns-in_err-costs c = search (rules, gives_refused, gives_rest)
+returns-in_err-costs-clause-value c = search (rules, gives_refused, gives_rest)
 
-pub returns-in_err-discount_num : goal.returns-in_err-discount_num
+pub returns-in_err-discount_num-clause-value : goal.returns-in_err-discount_num-clause-value
 unfolding finite_of
-returns-in_err-discount_num c = search (rules, gives_refused, gives_rest)
+returns-in_err-discount_num-clause-value c = search (rules, gives_refused, gives_rest)
 
-pub returns-in_err-most : goal.returns-in_err-most
+pub returns-in_err-most-clause-value : goal.returns-in_err-most-clause-value
 unfolding finite_of
-returns-in_err-most c = search (rules, gives_refused, gives_rest)
+returns-in_err-most-clause-value c = search (rules, gives_refused, gives_rest)
 
-pub returns-in_err-total : goal.returns-in_err-total
+pub returns-in_err-total-clause-value : goal.returns-in_err-total-clause-value
 unfolding finite_of
-returns-in_err-total c = search (rules, gives_refused, gives_rest)
+returns-in_err-total-clause-value c = search (rules, gives_refused, gives_rest)
 
-pub returns-in_err-laws : goal.returns-in_err-laws
+pub returns-in_err-laws-clause-value : goal.returns-in_err-laws-clause-value
 unfolding finite_of
-returns-in_err-laws c = search (rules, gives_refused, gives_rest)
+returns-in_err-laws-clause-value c = search (rules, gives_refused, gives_rest)
 
-pub returns-in_err-cap : goal.returns-in_err-cap
+pub returns-in_err-cap-clause-value : goal.returns-in_err-cap-clause-value
 unfolding finite_of
-returns-in_err-cap c = search (rules, gives_refused, gives_rest)
+returns-in_err-cap-clause-value c = search (rules, gives_refused, gives_rest)
 
-pub returns : goal.returns
+pub returns-clause-value : goal.returns-clause-value
 unfolding finite_of
-returns c = search (rules, taken)
+returns-clause-value c = search (rules, taken)

@@ -3,30 +3,30 @@ use Rattle.instance_json.specs.Horizons.{finite_costs_of}
 use Rattle.instance_json.proofs.Chained.{gives_refused, gives_rest, taken}
 use Rattle.instance_json.proofs.finite.finite_costs.Goals as goal
 
-pub returns-in_err-setup : goal.returns-in_err-setup
+pub returns-in_err-setup-clause-value : goal.returns-in_err-setup-clause-value
 unfolding finite_costs_of
-returns-in_err-setup c = search (rules, gives_refused, gives_rest)
+returns-in_err-setup-clause-value c = search (rules, gives_refused, gives_rest)
 
-pub returns-in_err-unit : goal.returns-in_err-unit
+pub returns-in_err-unit-clause-value : goal.returns-in_err-unit-clause-value
 unfolding finite_costs_of
-returns-in_err-unit c = search (rules, gives_refused, gives_rest)
+returns-in_err-unit-clause-value c = search (rules, gives_refused, gives_rest)
 
-pub returns-in_err-holding : goal.returns-in_err-holding
+pub returns-in_err-holding-clause-value : goal.returns-in_err-holding-clause-value
 unfolding finite_costs_of
-returns-in_err-holding c = search (rules, gives_refused, gives_rest)
+returns-in_err-holding-clause-value c = search (rules, gives_refused, gives_rest)
 
-pub returns-in_err-stockout : goal.returns-in_err-stockout
+pub returns-in_err-stockout-clause-value : goal.returns-in_err-stockout-clause-value
 unfolding finite_costs_of
-returns-in_err-stockout c = search (rules, gives_refused, gives_rest)
+returns-in_err-stockout-clause-value c = search (rules, gives_refused, gives_rest)
 
-pub returns-in_err-end_holding : goal.returns-in_err-end_holding
+pub returns-in_err-end_holding-clause-value : goal.returns-in_err-end_holding-clause-value
 unfolding finite_costs_of
-returns-in_err-end_holding c = search (rules, gives_refused, gives_rest)
+returns-in_err-end_holding-clause-value c = search (rules, gives_refused, gives_rest)
 
-pub returns-in_err-end_stockout : goal.returns-in_err-end_stockout
+pub returns-in_err-end_stockout-clause-value : goal.returns-in_err-end_stockout-clause-value
 unfolding finite_costs_of
-returns-in_err-end_stockout c = search (rules, gives_refused, gives_rest)
+returns-in_err-end_stockout-clause-value c = search (rules, gives_refused, gives_rest)
 
-pub returns : goal.returns
+pub returns-clause-value : goal.returns-clause-value
 unfolding finite_costs_of
-returns c = search (rules, taken)
+returns-clause-value c = search (rules, taken)

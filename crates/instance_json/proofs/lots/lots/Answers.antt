@@ -3,22 +3,22 @@ use Rattle.instance_json.specs.Lots.{lots_of}
 use Rattle.instance_json.proofs.Chained.{gives_refused, gives_rest, taken}
 use Rattle.instance_json.proofs.lots.lots.Goals as goal
 
-pub returns-in_err-demand : goal.returns-in_err-demand
+pub returns-in_err-demand-clause-value : goal.returns-in_err-demand-clause-value
 unfolding lots_of
-returns-in_err-demand c = search (rules, gives_refused, gives_rest)
+returns-in_err-demand-clause-value c = search (rules, gives_refused, gives_rest)
 
-pub returns-in_err-setup : goal.returns-in_err-setup
+pub returns-in_err-setup-clause-value : goal.returns-in_err-setup-clause-value
 unfolding lots_of
-returns-in_err-setup c = search (rules, gives_refused, gives_rest)
+returns-in_err-setup-clause-value c = search (rules, gives_refused, gives_rest)
 
-pub returns-in_err-holding : goal.returns-in_err-holding
+pub returns-in_err-holding-clause-value : goal.returns-in_err-holding-clause-value
 unfolding lots_of
-returns-in_err-holding c = search (rules, gives_refused, gives_rest)
+returns-in_err-holding-clause-value c = search (rules, gives_refused, gives_rest)
 
-pub returns-in_err-unit : goal.returns-in_err-unit
+pub returns-in_err-unit-clause-value : goal.returns-in_err-unit-clause-value
 unfolding lots_of
-returns-in_err-unit c = search (rules, gives_refused, gives_rest)
+returns-in_err-unit-clause-value c = search (rules, gives_refused, gives_rest)
 
-pub returns : goal.returns
+pub returns-clause-value : goal.returns-clause-value
 unfolding lots_of
-returns c = search (rules, taken)
+returns-clause-value c = search (rules, taken)

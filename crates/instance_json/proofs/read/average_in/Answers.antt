@@ -3,14 +3,14 @@ use Rattle.instance_json.specs.Reads.{average_in}
 use Rattle.instance_json.proofs.Chained.{gives_refused, gives_rest, taken}
 use Rattle.instance_json.proofs.read.average_in.Goals as goal
 
-pub returns-in_err-average_keys : goal.returns-in_err-average_keys
+pub returns-in_err-average_keys-clause-value : goal.returns-in_err-average_keys-clause-value
 unfolding average_in
-returns-in_err-average_keys c = search (rules, gives_refused, gives_rest)
+returns-in_err-average_keys-clause-value c = search (rules, gives_refused, gives_rest)
 
-pub returns-in_err-item : goal.returns-in_err-item
+pub returns-in_err-item-clause-value : goal.returns-in_err-item-clause-value
 unfolding average_in
-returns-in_err-item c = search (rules, gives_refused, gives_rest)
+returns-in_err-item-clause-value c = search (rules, gives_refused, gives_rest)
 
-pub returns : goal.returns
+pub returns-clause-value : goal.returns-clause-value
 unfolding average_in
-returns c = search (rules, taken)
+returns-clause-value c = search (rules, taken)

@@ -3,38 +3,38 @@ use Rattle.instance_json.specs.Serials.{serial_of}
 use Rattle.instance_json.proofs.Chained.{gives_refused, gives_rest, taken}
 use Rattle.instance_json.proofs.serial.serial.Goals as goal
 
-pub returns-in_err-periods : goal.returns-in_err-periods
+pub returns-in_err-periods-clause-value : goal.returns-in_err-periods-clause-value
 unfolding serial_of
-returns-in_err-periods c = search (rules, gives_refused, gives_rest)
+returns-in_err-periods-clause-value c = search (rules, gives_refused, gives_rest)
 
-pub returns-in_err-holding : goal.returns-in_err-holding
+pub returns-in_err-holding-clause-value : goal.returns-in_err-holding-clause-value
 unfolding serial_of
-returns-in_err-holding c = search (rules, gives_refused, gives_rest)
+returns-in_err-holding-clause-value c = search (rules, gives_refused, gives_rest)
 
-pub returns-in_err-unit : goal.returns-in_err-unit
+pub returns-in_err-unit-clause-value : goal.returns-in_err-unit-clause-value
 unfolding serial_of
-returns-in_err-unit c = search (rules, gives_refused, gives_rest)
+returns-in_err-unit-clause-value c = search (rules, gives_refused, gives_rest)
 
-pub returns-in_err-stockout : goal.returns-in_err-stockout
+pub returns-in_err-stockout-clause-value : goal.returns-in_err-stockout-clause-value
 unfolding serial_of
-returns-in_err-stockout c = search (rules, gives_refused, gives_rest)
+returns-in_err-stockout-clause-value c = search (rules, gives_refused, gives_rest)
 
-pub returns-in_err-discount_num : goal.returns-in_err-discount_num
+pub returns-in_err-discount_num-clause-value : goal.returns-in_err-discount_num-clause-value
 unfolding serial_of
-returns-in_err-discount_num c = search (rules, gives_refused, gives_rest)
+returns-in_err-discount_num-clause-value c = search (rules, gives_refused, gives_rest)
 
-pub returns-in_err-total : goal.returns-in_err-total
+pub returns-in_err-total-clause-value : goal.returns-in_err-total-clause-value
 unfolding serial_of
-returns-in_err-total c = search (rules, gives_refused, gives_rest)
+returns-in_err-total-clause-value c = search (rules, gives_refused, gives_rest)
 
-pub returns-in_err-laws : goal.returns-in_err-laws
+pub returns-in_err-laws-clause-value : goal.returns-in_err-laws-clause-value
 unfolding serial_of
-returns-in_err-laws c = search (rules, gives_refused, gives_rest)
+returns-in_err-laws-clause-value c = search (rules, gives_refused, gives_rest)
 
-pub returns-in_err-cap : goal.returns-in_err-cap
+pub returns-in_err-cap-clause-value : goal.returns-in_err-cap-clause-value
 unfolding serial_of
-returns-in_err-cap c = search (rules, gives_refused, gives_rest)
+returns-in_err-cap-clause-value c = search (rules, gives_refused, gives_rest)
 
-pub returns : goal.returns
+pub returns-clause-value : goal.returns-clause-value
 unfolding serial_of
-returns c = search (rules, taken)
+returns-clause-value c = search (rules, taken)
