@@ -17,8 +17,17 @@ use fraction128::{Memory, Text};
 use std::alloc::Global;
 use std::slice;
 
+#[cfg(test)]
+mod tests;
+
 // Appends the law of the demand of `count` periods together, the first of them at a place of the list of laws.
-fn push_sum(alloc: Global, out: &mut Text, laws: &[Law], place: usize, count: usize) -> Result<(), Memory>
+fn push_sum(
+    alloc: Global,
+    out: &mut Text,
+    laws: &[Law],
+    place: usize,
+    count: usize,
+) -> Result<(), Memory>
     requires some { 1 ≤ count }
     requires has_sum { HasSum laws.now place count }
     ensures { OnOk result (out.new ≡ out.old ++ law_text (law_of_periods laws.now place count)) }
@@ -31,7 +40,13 @@ fn push_sum(alloc: Global, out: &mut Text, laws: &[Law], place: usize, count: us
 }
 
 // Appends the same under the number of the first period.
-fn push_period(alloc: Global, out: &mut Text, laws: &[Law], place: u32, count: usize) -> Result<(), Memory>
+fn push_period(
+    alloc: Global,
+    out: &mut Text,
+    laws: &[Law],
+    place: u32,
+    count: usize,
+) -> Result<(), Memory>
     requires place { place + 1 < 2 ^ 32 }
     requires some { 1 ≤ count }
     requires has_sum { HasSum laws.now place count }
@@ -42,7 +57,13 @@ fn push_period(alloc: Global, out: &mut Text, laws: &[Law], place: u32, count: u
 }
 
 // Appends the same for each period.
-fn push_periods(alloc: Global, out: &mut Text, laws: &[Law], periods: u32, count: usize) -> Result<(), Memory>
+fn push_periods(
+    alloc: Global,
+    out: &mut Text,
+    laws: &[Law],
+    periods: u32,
+    count: usize,
+) -> Result<(), Memory>
     requires some { 1 ≤ count }
     requires have_sums { (place : ℕ) → place < periods → HasSum laws.now place count }
     ensures { OnOk result (out.new ≡ out.old ++ periods_text periods (λ place. law_of_periods laws.now place count)) }

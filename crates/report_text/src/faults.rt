@@ -9,6 +9,9 @@ use fraction128::{Memory, Text};
 use instance_json::{InstanceFault, Key, KeyList};
 use std::alloc::Global;
 
+#[cfg(test)]
+mod tests;
+
 /// Why a run doesn't end with its text, as standard error tells it.
 #[derive(Drop)]
 pub enum Fault {

@@ -5,8 +5,6 @@ mod demand;
 mod faults;
 mod laws;
 mod pieces;
-#[cfg(test)]
-mod tests;
 
 pub use demand::demand_text;
 pub use faults::{Fault, fault_text};

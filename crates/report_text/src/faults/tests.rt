@@ -1,4 +1,4 @@
-// The texts, as they are printed.
+// One message a fault.
 use crate::{Fault, fault_text};
 use decision_model::Kind;
 use demand_law::LawFault;
