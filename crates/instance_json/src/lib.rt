@@ -15,6 +15,8 @@ mod numbers;
 mod read;
 mod rules;
 mod serial;
+#[cfg(test)]
+mod tests;
 
 pub use fault::{FieldErr, FieldFault, InstanceErr, InstanceFault, Key, KeyList};
 pub use read::read_instance;
