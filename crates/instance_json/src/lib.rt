@@ -15,6 +15,8 @@ mod numbers;
 mod read;
 mod rules;
 mod serial;
+#[cfg(test)]
+mod tests;
 mod write;
 mod write_kinds;
 #[cfg(test)]
