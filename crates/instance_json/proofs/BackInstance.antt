@@ -18,8 +18,8 @@ use Rattle.decision_model.specs.Lots.{IsReadableLots}
 use Rattle.decision_model.specs.Finite.{IsReadableFinite}
 use Rattle.decision_model.specs.Average.{IsReadableAverage}
 use Rattle.decision_model.specs.Serial.{IsReadableSerial}
-use Rattle.decision_model.specs.Valid.{IsReadable}
-use Rattle.instance_json.specs.Reads.{kind_in, newsvendor_in, lots_in, finite_in, average_in, serial_in, of_kind, instance_in, fields_in}
+use Rattle.decision_model.specs.Valid.{IsReadable, IsValid}
+use Rattle.instance_json.specs.Reads.{kind_in, newsvendor_in, lots_in, finite_in, average_in, serial_in, of_kind, instance_in, fields_in, reads}
 use Rattle.instance_json.specs.WrittenKinds.{newsvendor_data, lots_data, finite_data, average_data, serial_data}
 use Rattle.instance_json.specs.Written.{instance_data, IsTyped}
 use Rattle.instance_json.proofs.BackNews.{newsvendor_keys, newsvendor_back}
@@ -27,6 +27,7 @@ use Rattle.instance_json.proofs.BackLots.{lots_keys, lots_back}
 use Rattle.instance_json.proofs.BackFinite.{finite_keys, finite_back}
 use Rattle.instance_json.proofs.BackAverage.{average_keys, average_back}
 use Rattle.instance_json.proofs.BackSerial.{serial_keys, serial_back}
+use Rattle.instance_json.proofs.BackRules.{rules_met, IsReadable-valid}
 
 kind_written : (item : Instance) → kind_in (instance_data item) ≡ Some (kind_of item)
 unfolding newsvendor_data lots_data finite_data average_data serial_data
@@ -64,8 +65,15 @@ of_kind_again (Average item) typed readable = average_again item readable
 of_kind_again (Serial item) typed readable = serial_again item readable
 
 -- the text of an instance in range has its fields
-pub fields_back : (bytes : List ℕ) (item : Instance) → IsUtf8 bytes → read bytes ≡ Some (instance_data item) → IsTyped item → IsReadable item → fields_in bytes ≡ Ok item
+fields_back : (bytes : List ℕ) (item : Instance) → IsUtf8 bytes → read bytes ≡ Some (instance_data item) → IsTyped item → IsReadable item → fields_in bytes ≡ Ok item
 unfolding fields_in
 fields_back bytes item utf8 says typed readable =
     let again : instance_in (instance_data item) ≡ Ok item = ap (λ (k : Option Kind). of_kind k (instance_data item)) (kind_written item) ∙ of_kind_again item typed readable in
     rw (is_utf8-from_IsUtf8 bytes utf8, says) again
+
+-- the text of a valid instance says that instance
+pub reads_back : (bytes : List ℕ) (item : Instance) → IsUtf8 bytes → read bytes ≡ Some (instance_data item) → IsTyped item → IsValid item → reads bytes ≡ Ok item
+unfolding reads
+reads_back bytes item utf8 says typed valid =
+    let fields = fields_back bytes item utf8 says typed (IsReadable-valid item valid) in
+    rw (fields, rules_met item valid) refl

@@ -19,6 +19,7 @@ pub mod BackFields
 pub mod BackAverage
 pub mod BackFinite
 pub mod BackSerial
+pub mod BackRules
 pub mod BackInstance
 pub mod Starts
 pub mod Validity

@@ -2,8 +2,8 @@
 ghost use Rattle.std.specs.Prelude.{◌≡◌, IfOk, Some, Ok};
 ghost use Rattle.serde_json.specs.Read.{read};
 ghost use Rattle.serde_json.specs.View.{view};
-ghost use Rattle.decision_model.specs.Valid.{IsReadable};
-ghost use Rattle.instance_json.specs.Reads.{fields_in};
+ghost use Rattle.decision_model.specs.Valid.{IsValid};
+ghost use Rattle.instance_json.specs.Reads.{reads};
 ghost use Rattle.instance_json.specs.Written.{instance_data, instance_text, IsTyped};
 
 use crate::write_kinds::{average_value, finite_value, lots_value, newsvendor_value, serial_value};
@@ -31,7 +31,7 @@ fn instance_value(alloc: Global, item: &Instance) -> Result<Value, AllocError>
 /// list is a list, a law is its points by ascending demand, and a list of one law is that law.
 pub fn write_instance(alloc: Global, item: &Instance) -> Result<Vec<u8>, Memory>
     ensures text { IfOk result (λ bytes. bytes.items ≡ instance_text item.now) }
-    ensures reads_back { IsReadable item.now → IfOk result (λ bytes. fields_in bytes.items ≡ Ok item.now) }
+    ensures reads_back { IsValid item.now → IfOk result (λ bytes. reads bytes.items ≡ Ok item.now) }
     ensures is_json { IfOk result (λ bytes. read bytes.items ≡ Some (instance_data item.now)) }
 {
     let Ok(value) = instance_value(alloc, item) else {

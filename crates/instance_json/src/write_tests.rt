@@ -1,5 +1,5 @@
 // Instances whose texts were written by hand.
-use crate::write_instance;
+use crate::{read_instance, write_instance};
 use decision_model::{Amounts, Average, Finite, Instance, Laws, LotSize, Positions, Serial};
 use demand_law::Law;
 use newsvendor::Newsvendor;
@@ -19,10 +19,16 @@ fn amounts(rt: &HostRuntime, list: &[u64]) -> Result<Amounts, Fail> {
     Ok(Amounts::new(list.to_vec(rt.alloc())?))
 }
 
-// Whether an instance is written as this text.
+// Whether an instance is written as this text, and what the text says is written as it again.
 fn is_written(rt: &HostRuntime, item: &Instance, text: &str) -> Result<bool, Fail> {
     let bytes = write_instance(rt.alloc(), item)?;
-    Ok(bytes.as_slice() == text.as_bytes())
+    if bytes.as_slice() != text.as_bytes() {
+        return Ok(false);
+    }
+    match read_instance(rt.alloc(), &bytes) {
+        Ok(again) => Ok(write_instance(rt.alloc(), &again)?.as_slice() == text.as_bytes()),
+        Err(_) => Ok(false),
+    }
 }
 
 #[test]

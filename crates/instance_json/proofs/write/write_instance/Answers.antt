@@ -3,7 +3,7 @@ use Rattle.serde_json.specs.Data.{depth}
 use Rattle.serde_json.specs.View.{view}
 use Rattle.serde_json.specs.Written.{has_float, compact_text}
 use Rattle.instance_json.specs.Written.{instance_text}
-use Rattle.instance_json.proofs.BackInstance.{fields_back}
+use Rattle.instance_json.proofs.BackInstance.{reads_back}
 use Rattle.instance_json.proofs.WrittenPlain.{instance_plain}
 use Rattle.instance_json.proofs.write.write_instance.Goals as goal
 
@@ -20,8 +20,8 @@ returns-in-Ok-to_vec-clause-is_json c =
     c.in-Ok-to_vec.ensures.reads_back fits ∙ ap Some c.in-Ok.ensures.value
 
 pub returns-in-Ok-to_vec-clause-reads_back : goal.returns-in-Ok-to_vec-clause-reads_back
-returns-in-Ok-to_vec-clause-reads_back c = λ readable.
+returns-in-Ok-to_vec-clause-reads_back c = λ valid.
     let shallow = (instance_plain c.args.item.now).1 in
     let fits : depth (view c.in-Ok.value) ≤ 127 = omega (arith, ap depth c.in-Ok.ensures.value) in
     let says = c.in-Ok-to_vec.ensures.reads_back fits ∙ ap Some c.in-Ok.ensures.value in
-    fields_back c.in-Ok-to_vec.bytes.items c.args.item.now c.in-Ok-to_vec.ensures.utf8 says c.in-Ok.ensures.typed readable
+    reads_back c.in-Ok-to_vec.bytes.items c.args.item.now c.in-Ok-to_vec.ensures.utf8 says c.in-Ok.ensures.typed valid
