@@ -48,7 +48,7 @@ fn refused(rt: &impl Abort, alloc: Global, text: &str, name: &str, told: &str) {
         panic!(rt; "{text} is not refused");
     };
     let (found, key) = words(&fault);
-    assert!(rt; found == told, "{text}: {found}");
+    assert!(rt; found == told, "{text}");
     assert!(rt; key == name.as_bytes());
 }
 
