@@ -1,5 +1,5 @@
 -- A finite horizon that was written is read back.
-use Rattle.std.proofs.Common.{◌≡◌, ℕ, ◌+◌, ◌≤◌, ℤ, pos, ◌≤ℤ◌, ◌++◌, Option, Some, None, Ok, refl, sym, ap, ◌∙◌, subst, codes, arith}
+use Rattle.std.proofs.Common.{◌≡◌, ℕ, ◌+◌, ℤ, pos, ◌≤ℤ◌, ◌++◌, Option, Some, None, Ok, refl, sym, ap, subst, codes, arith}
 use Rattle.std.specs.Prelude.{int_le, IfSome}
 use Rattle.serde_json.specs.Data.{Data, object}
 use Rattle.serde_json.specs.Find.{get}

@@ -2,12 +2,10 @@
 use Rattle.std.proofs.Common.{◌≡◌, ℕ, List, Some, Ok, Option, refl, ap, ◌∙◌}
 use Rattle.std.specs.Str.{IsUtf8}
 use Rattle.std.proofs.lemmas.Str.{is_utf8-from_IsUtf8}
-use Rattle.serde_json.specs.Data.{Data}
 use Rattle.serde_json.specs.Read.{read}
 use Rattle.newsvendor.specs.Item.{NewsvendorItem, IsNewsvendor}
 use Rattle.decision_model.specs.Kind.{kind_of}
 use Rattle.decision_model.specs.declared.kinds.Kind.{Kind}
-use Rattle.decision_model.specs.declared.kinds.Kind.TheVariants as kind
 use Rattle.decision_model.specs.declared.instance.LotSize.{LotSize}
 use Rattle.decision_model.specs.declared.instance.Finite as finite
 use Rattle.decision_model.specs.declared.instance.Average as average

@@ -1,11 +1,9 @@
 -- Keys that were written are read back.
-use Rattle.std.proofs.Common.{◌≡◌, ℕ, ◌≤◌, List, Bool, true, cond, Option, Some, None, Result, Ok, Err, refl, ap, ◌∙◌}
-use Rattle.std.specs.Prelude.{⊤}
+use Rattle.std.proofs.Common.{◌≡◌, ℕ, List, Bool, true, cond, Option, Some, None, Result, Ok, Err, ap, ◌∙◌}
 use Rattle.serde_json.specs.Data.{Data}
 use Rattle.serde_json.specs.Find.{get}
 use Rattle.instance_json.specs.declared.fault.FieldFault.{FieldFault}
 use Rattle.instance_json.specs.declared.fault.FieldFault.TheVariants.{OutOfRange}
-use Rattle.instance_json.specs.declared.fault.InstanceFault.{InstanceFault}
 use Rattle.instance_json.specs.Faults.{told}
 use Rattle.instance_json.specs.Steps.{◌>>=◌}
 use Rattle.instance_json.specs.Keys.{found, given, required, optional, in_range}

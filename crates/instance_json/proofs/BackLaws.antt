@@ -1,5 +1,5 @@
 -- Laws that were written are read back.
-use Rattle.std.proofs.Common.{◌≡◌, ℕ, suc, ◌-◌, ◌*◌, ◌/◌, ◌==◌, ◌%◌, ◌<◌, ◌≤◌, min, sum, List, [], ◌∷◌, length, map, All, Bool, true, false, cond, Option, Some, None, Result, Ok, Err, refl, sym, ap, ◌∙◌, arith, eq-eqb, inl, inr}
+use Rattle.std.proofs.Common.{◌≡◌, ℕ, suc, ◌-◌, ◌*◌, ◌/◌, ◌==◌, ◌%◌, ◌<◌, ◌≤◌, min, sum, List, [], ◌∷◌, length, map, All, Bool, true, cond, Option, Some, None, Result, Ok, Err, refl, sym, ap, ◌∙◌, arith, eq-eqb, inl, inr}
 use Rattle.std.specs.List.{list_all}
 use Rattle.std.specs.Prelude.{is_ok}
 use Rattle.std.proofs.Math.Nat.{mod_self, div_self}
@@ -11,12 +11,12 @@ use Rattle.demand_law.specs.Points.{points_fault, points_law}
 use Rattle.demand_law.specs.Named.{rescale_fault, rescaled_law}
 use Rattle.decision_model.specs.DemandLaws.{IsDemandLaw, AreDemandLaws, common_total}
 use Rattle.instance_json.specs.declared.fault.FieldFault.{FieldFault}
-use Rattle.instance_json.specs.declared.fault.FieldFault.TheVariants.{WrongType, OutOfRange, LengthMismatch}
+use Rattle.instance_json.specs.declared.fault.FieldFault.TheVariants.{LengthMismatch}
 use Rattle.instance_json.specs.declared.law_texts.LawForm.TheVariants.{Points}
 use Rattle.instance_json.specs.declared.law_texts.NumberTest.{NumberTest}
 use Rattle.instance_json.specs.declared.law_texts.NumberTest.TheVariants.{Whole, Word}
 use Rattle.instance_json.specs.Steps.{◌>>=◌, each}
-use Rattle.instance_json.specs.Numbers.{is_whole, items_in, amount_in}
+use Rattle.instance_json.specs.Numbers.{items_in}
 use Rattle.instance_json.specs.LawTexts.{passes, all_pass, is_tuple, law_text, text_passes, is_law, point_in, points_in, text_made, points_made, made, law_of, all_laws, law_in, common_sum, scaled_law, scaled_laws, some_laws, laws_in}
 use Rattle.instance_json.specs.WrittenValues.{amount_data, pair_data, point_data, points_from, list_data, law_data, laws_data}
 use Rattle.instance_json.proofs.BackNumbers.{is_whole-amount, amount_back, items_in-list}

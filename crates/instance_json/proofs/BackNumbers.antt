@@ -1,13 +1,13 @@
 -- Numbers and lists of them that were written are read back.
-use Rattle.std.proofs.Common.{◌≡◌, ℕ, suc, ◌^◌, ◌<◌, ◌≤◌, ℤ, pos, negsuc, ◌≤ℤ◌, List, [], ◌∷◌, length, map, All, Bool, true, false, cond, Option, Some, None, Result, Ok, Err, refl, sym, ap, ◌∙◌, subst, arith, le-leb, lt-ltb, T}
+use Rattle.std.proofs.Common.{◌≡◌, ℕ, suc, ◌^◌, ◌<◌, ◌≤◌, ℤ, pos, negsuc, ◌≤ℤ◌, List, [], ◌∷◌, length, map, All, Bool, true, false, cond, Some, None, Result, Ok, Err, refl, ap, ◌∙◌, arith, le-leb, lt-ltb, T}
 use Rattle.std.proofs.lemmas.Int.{ints}
-use Rattle.std.specs.Prelude.{int_le, is_some, ◌||◌, nat_lt, nat_le, ◌&&◌}
+use Rattle.std.specs.Prelude.{int_le, is_some, ◌||◌, nat_lt}
 use Rattle.std.specs.List.{list_all}
 use Rattle.decision_model.specs.Positions.{IsPosition}
 use Rattle.serde_json.specs.Data.{Data}
 use Rattle.serde_json.specs.View.{items_of}
 use Rattle.instance_json.specs.declared.fault.FieldFault.{FieldFault}
-use Rattle.instance_json.specs.declared.fault.FieldFault.TheVariants.{WrongType, OutOfRange, LengthMismatch}
+use Rattle.instance_json.specs.declared.fault.FieldFault.TheVariants.{WrongType}
 use Rattle.instance_json.specs.Steps.{◌>>=◌, each}
 use Rattle.instance_json.specs.Numbers.{is_whole, within, amount_in, some_amount_in, position_within, position_in, list_of, all_whole, items_in, amounts_in, positions_in, of_length_within, some_amounts_in, start_positions_in, rates_in}
 use Rattle.instance_json.specs.WrittenValues.{amount_data, position_data, list_data, amounts_data, positions_data}

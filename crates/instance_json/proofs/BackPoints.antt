@@ -1,11 +1,9 @@
 -- The points that a law is written as make that law.
-use Rattle.std.proofs.Common.{◌≡◌, ◌≢◌, ℕ, zero, suc, ◌+◌, ◌-◌, ◌<◌, ◌≤◌, ◌==◌, max, sum, List, [], ◌∷◌, ◌++◌, length, get_or, map, Bool, true, false, cond, Option, Some, None, Result, Ok, Err, refl, sym, ap, ◌∙◌, subst, arith, lt-ltb, le-ltb, ne_eqb, eq-eqb, add-one}
-use Rattle.std.specs.Prelude.{nat_lt, ⊤, min}
-use Rattle.std.specs.List.{range_with_len, list_all}
-use Rattle.std.proofs.lemmas.Bool.{eqb-true, ltb-false}
-use Rattle.std.proofs.lemmas.Bool.Decides.{nat_tests}
+use Rattle.std.proofs.Common.{◌≡◌, ◌≢◌, ℕ, zero, suc, ◌+◌, ◌-◌, ◌<◌, ◌≤◌, ◌==◌, sum, List, [], ◌∷◌, ◌++◌, length, get_or, map, Bool, true, false, cond, None, refl, sym, ap, ◌∙◌, arith, le-ltb, ne_eqb, eq-eqb, add-one}
+use Rattle.std.specs.Prelude.{⊤}
+use Rattle.std.specs.List.{range_with_len}
+use Rattle.std.proofs.lemmas.Bool.{eqb-true}
 use Rattle.std.proofs.lemmas.List.Sums.{sum_by-cons}
-use Rattle.demand_law.specs.declared.law.LawFault.{LawFault}
 use Rattle.demand_law.specs.Points.{weight_in, total_in, width_in, is_listed, first_fault, sum_fault, points_fault, points_law}
 use Rattle.decision_model.specs.DemandLaws.{IsDemandLaw}
 use Rattle.instance_json.specs.WrittenValues.{points_from}

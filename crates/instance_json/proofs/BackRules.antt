@@ -1,5 +1,5 @@
 -- A valid instance meets the rules over several keys.
-use Rattle.std.proofs.Common.{◌≡◌, ℕ, zero, suc, ◌+◌, ◌-◌, ◌<◌, ◌≤◌, List, length, find, get_or, Bool, true, false, cond, Option, Some, None, Ok, refl, arith, lt-ltb, le-ltb, le-leb}
+use Rattle.std.proofs.Common.{◌≡◌, ℕ, zero, suc, ◌+◌, ◌-◌, ◌<◌, ◌≤◌, List, length, find, get_or, Bool, true, false, None, Ok, refl, arith, lt-ltb, le-ltb, le-leb}
 use Rattle.std.specs.Prelude.{IsTrue, not, ◌||◌}
 use Rattle.std.specs.List.{range_with_len}
 use Rattle.demand_law.specs.Law.{greatest_of}

@@ -1,5 +1,5 @@
 -- Steps of a reading, one after another.
-use Rattle.std.proofs.Common.{◌≡◌, Result, Ok, Err, refl, sym, ap, ◌∙◌, subst}
+use Rattle.std.proofs.Common.{◌≡◌, Result, Ok, Err, sym, ap, ◌∙◌, subst}
 use Rattle.instance_json.specs.declared.fault.InstanceFault.{InstanceFault}
 use Rattle.instance_json.specs.declared.fault.InstanceErr.{InstanceErr}
 use Rattle.instance_json.specs.declared.fault.InstanceErr.TheVariants.{Bad, Memory}

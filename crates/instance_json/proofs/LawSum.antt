@@ -1,5 +1,5 @@
 -- A law has some weight.
-use Rattle.std.proofs.Common.{◌≡◌, ℕ, ◌<◌, ◌≤◌, List, length, ◌-◌, sum, arith}
+use Rattle.std.proofs.Common.{ℕ, ◌≤◌, List, length, ◌-◌, sum, arith}
 use Rattle.std.proofs.lemmas.List.Sums.{get_or-le-sum_by}
 use Rattle.demand_law.specs.Law.{IsLaw}
 

@@ -1,5 +1,5 @@
 -- A law that was made, or why none was.
-use Rattle.std.proofs.Common.{◌≡◌, ℕ, List, Option, Some, None, Result, Ok, Err, refl, sym, ap, ◌∙◌}
+use Rattle.std.proofs.Common.{◌≡◌, ℕ, List, Option, Some, None, Result, Ok, Err, sym, ap, ◌∙◌}
 use Rattle.std.specs.Result.{IfOk, OnOk, IfErr}
 use Rattle.demand_law.specs.Placed.{MatchErr}
 use Rattle.demand_law.specs.declared.law.LawFault.{LawFault}

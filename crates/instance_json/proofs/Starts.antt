@@ -1,5 +1,5 @@
 -- Echelon stocks that never fall and are at most the cap.
-use Rattle.std.proofs.Common.{◌≡◌, ℕ, zero, suc, ◌+◌, ◌-◌, ◌<◌, ℤ, pos, ◌≤ℤ◌, List, [], ◌∷◌, length, get_or, Bool, true, false, ◌&&◌, refl, sym, subst, ◌∙◌, arith, add-one}
+use Rattle.std.proofs.Common.{◌≡◌, ℕ, zero, suc, ◌-◌, ◌<◌, ℤ, pos, ◌≤ℤ◌, List, [], ◌∷◌, length, get_or, Bool, true, false, ◌&&◌, refl, sym, subst, ◌∙◌, arith, add-one}
 use Rattle.std.specs.Prelude.{int_le}
 use Rattle.std.specs.List.{list_all, AllAdjacentBelow}
 use lib.Signed.{le_z_yes}

@@ -1,5 +1,5 @@
 -- A field's refusal, told of its key.
-use Rattle.std.proofs.Common.{◌≡◌, List, ℕ, Option, Some, Result, Ok, Err, refl, sym, ap, ◌∙◌, subst}
+use Rattle.std.proofs.Common.{◌≡◌, List, ℕ, Option, Some, Result, Err, sym, ap, ◌∙◌, subst}
 use Rattle.serde_json.specs.Data.{Data}
 use Rattle.serde_json.specs.Find.{get}
 use Rattle.instance_json.specs.declared.fault.FieldFault.{FieldFault}
@@ -7,7 +7,7 @@ use Rattle.instance_json.specs.declared.fault.FieldErr.{FieldErr}
 use Rattle.instance_json.specs.declared.fault.FieldErr.TheVariants as field
 use Rattle.instance_json.specs.declared.fault.InstanceErr.{InstanceErr}
 use Rattle.instance_json.specs.declared.fault.InstanceErr.TheVariants.{Bad, Memory}
-use Rattle.instance_json.specs.Faults.{Gives, GivesField, TellsErr, top_key, told, told_fault}
+use Rattle.instance_json.specs.Faults.{Gives, GivesField, TellsErr, told}
 use Rattle.instance_json.specs.Keys.{found, given, required, optional}
 use Rattle.instance_json.specs.Steps.{◌>>=◌}
 

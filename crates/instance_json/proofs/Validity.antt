@@ -1,5 +1,4 @@
 -- What the rules over several keys come to.
-use Rattle.std.specs.Prelude.{⊤}
 use Rattle.decision_model.specs.declared.instance.Instance.{Instance}
 use Rattle.decision_model.specs.declared.instance.Instance.TheVariants.{News, Lots, Finite, Average, Serial}
 use Rattle.decision_model.specs.Valid.{IsReadable, GridFits, WidthFits, IsRegular, IsValid}

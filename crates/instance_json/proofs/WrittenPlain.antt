@@ -1,5 +1,5 @@
 -- The data that are written have no float, and nest five levels at most.
-use Rattle.std.proofs.Common.{◌≡◌, ℕ, suc, ◌≤◌, min, ℤ, pos, negsuc, List, [], ◌∷◌, map, codes, Bool, true, false, Option, Some, None, refl, arith}
+use Rattle.std.proofs.Common.{◌≡◌, ℕ, suc, ◌≤◌, min, ℤ, pos, negsuc, List, [], ◌∷◌, map, codes, false, Option, Some, None, refl, arith}
 use Rattle.std.specs.Prelude.{⊤}
 use Rattle.newsvendor.specs.Item.{NewsvendorItem}
 use Rattle.serde_json.specs.Data.{Data, string, object, depth, items_depth, members_depth}

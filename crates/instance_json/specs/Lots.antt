@@ -1,11 +1,11 @@
 -- The lot sizing that an object says.
-use Rattle.std.specs.Prelude.{ℕ, List, [], ◌∷◌, length, replicate, codes, Result, Ok, ⊤}
+use Rattle.std.specs.Prelude.{ℕ, List, [], ◌∷◌, length, replicate, codes, Result, Ok}
 use Rattle.serde_json.specs.Data.{Data}
 use Rattle.decision_model.specs.declared.instance.LotSize.{LotSize}
 use Rattle.instance_json.specs.declared.fault.InstanceFault.{InstanceFault}
 use Rattle.instance_json.specs.Steps.{◌>>=◌}
 use Rattle.instance_json.specs.Numbers.{some_amounts_in, rates_in}
-use Rattle.instance_json.specs.Keys.{required, optional, has_keys}
+use Rattle.instance_json.specs.Keys.{required, optional}
 
 -- the keys that must be there, and all that may be
 abbrev pub lots_needed : List (List ℕ)

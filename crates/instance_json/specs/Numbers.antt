@@ -1,5 +1,5 @@
 -- Whole numbers and lists of them in JSON values.
-use Rattle.std.specs.Prelude.{ℕ, ◌&&◌, ◌||◌, ◌==◌, ℤ, pos, negsuc, List, [], ◌∷◌, length, replicate, Bool, nat_le, int_le, if◌then◌else◌, Option, Some, None, is_some, is_ok, option_map, option_and_then, Result, Ok, Err}
+use Rattle.std.specs.Prelude.{ℕ, ◌&&◌, ◌||◌, ℤ, pos, negsuc, List, [], ◌∷◌, length, replicate, Bool, nat_le, int_le, if◌then◌else◌, Option, Some, None, is_some, is_ok, option_map, option_and_then, Result, Ok, Err}
 use Rattle.std.specs.List.{list_all}
 use Rattle.serde_json.specs.Data.{Data, Items, no_items, item}
 use Rattle.serde_json.specs.Find.{as_number, as_u64, as_i64, as_array}

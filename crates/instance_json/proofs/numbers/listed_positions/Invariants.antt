@@ -1,4 +1,4 @@
-use Rattle.std.proofs.Common.{◌≡◌, ◌≤◌, All, ◌++◌, Ok, map, drop}
+use Rattle.std.proofs.Common.{◌≡◌, All, ◌++◌, Ok, map, drop}
 use Rattle.decision_model.specs.Positions.{IsPosition}
 use Rattle.serde_json.specs.View.{view}
 use Rattle.instance_json.specs.Steps.{◌>>=◌, each}
