@@ -1,7 +1,13 @@
 // What no clause says: that calls succeed where memory is there, and values told by hand.
+ghost use Rattle.std.specs.Prelude.{None};
+
 use super::*;
+use crate::real_files::read_uninterrupted;
 use std::alloc::Global;
+use std::cell::Cell;
+use std::fs;
 use std::io::{self, ErrorKind, Read, Write};
+use std::os::unix::fs::FileExt;
 use std::test::Fail;
 
 const LENGTH: usize = 10_000;
@@ -125,6 +131,27 @@ impl Write for Unsteady {
     }
 }
 
+// An open file at its end, whose first reads are interrupted.
+#[derive(Drop)]
+struct Halting {
+    interrupted: Cell<u8>,
+}
+
+impl FileExt for Halting {
+    fn read_at(&self, _buf: &mut [u8], _offset: u64) -> io::Result<usize> {
+        let left = self.interrupted.get();
+        if left == 0 {
+            return Ok(0);
+        }
+        self.interrupted.set(left - 1);
+        Err(io::Error::from(ErrorKind::Interrupted))
+    }
+
+    fn write_at(&self, _buf: &[u8], _offset: u64) -> io::Result<usize> {
+        Ok(0)
+    }
+}
+
 #[test]
 fn tries_again_where_the_system_was_interrupted(rt: HostRuntime) -> Result<(), Fail> {
     let mut source = RealSource::new(Unsteady {
@@ -135,6 +162,10 @@ fn tries_again_where_the_system_was_interrupted(rt: HostRuntime) -> Result<(), F
     for want in [Ok(1), Ok(1), Err(Failed)] {
         assert_eq!(rt; source.read(&mut buf), want);
     }
+    let file = Halting {
+        interrupted: Cell::new(3),
+    };
+    assert_eq!(rt; read_uninterrupted(&file, 0, &mut buf), Ok(0));
     let mut sink = RealSink::new(Unsteady {
         interrupted: 3,
         steady: 2,
@@ -153,5 +184,107 @@ fn adapts_readers_and_writers(rt: HostRuntime) -> Result<(), Fail> {
     let mut sink = RealSink::new(io::Cursor::new([0u8; 2]));
     assert_eq!(rt; write_all(&mut sink, b"ab"), Ok(()));
     assert_eq!(rt; write_all(&mut sink, b"c"), Err(Failed));
+    Ok(())
+}
+
+#[test]
+fn reads_whole_files_within_the_limit(rt: HostRuntime) -> Result<(), Fail> {
+    let alloc = rt.alloc();
+    let bytes = sample(alloc)?;
+    let mut files = MemFiles::new(alloc, &[])?;
+    let mut quiet = QuietFiles::new(alloc)?;
+    for given in [b"".as_slice(), b"old".as_slice(), bytes.as_slice()] {
+        files.add("sample", given)?;
+        quiet.add("sample", given)?;
+    }
+    files.add("other", b"abc")?;
+    for limit in [LENGTH, usize::MAX] {
+        let all = read_file(alloc, &mut files, "sample", limit)?;
+        assert_eq!(rt; all.as_slice(), bytes.as_slice(), "limit {limit}");
+        let all = read_file(alloc, &mut quiet, "sample", limit)?;
+        assert_eq!(rt; all.as_slice(), bytes.as_slice(), "limit {limit}, quiet");
+    }
+    for (name, why) in [("sample", FileErr::TooLong), ("simple", FileErr::Missing)] {
+        let refused = read_file(alloc, &mut files, name, LENGTH - 1);
+        assert_eq!(rt; refused.err(), Some(why), "{name}");
+    }
+    Ok(())
+}
+
+#[test]
+fn fails_at_the_listed_reads_of_files(rt: HostRuntime) -> Result<(), Fail> {
+    let alloc = rt.alloc();
+    let bytes = sample(alloc)?;
+    // Three reads give bytes, and a fourth shows the end.
+    for number in 1..5 {
+        let mut files = MemFiles::new(alloc, &[number, 9])?;
+        files.add("sample", &bytes)?;
+        let refused = read_file(alloc, &mut files, "sample", LENGTH);
+        assert_eq!(rt; refused.err(), Some(FileErr::Failed), "read {number}");
+        let all = read_file(alloc, &mut files, "sample", LENGTH)?;
+        assert_eq!(rt; all.as_slice(), bytes.as_slice(), "after read {number}");
+    }
+    let mut files = MemFiles::new(alloc, &[2])?;
+    for why in [FileErr::Missing, FileErr::Failed, FileErr::Missing] {
+        let refused = read_file(alloc, &mut files, "none", 0);
+        assert_eq!(rt; refused.err(), Some(why));
+    }
+    Ok(())
+}
+
+// Files that keep how far into a file the reads reached.
+#[derive(Drop)]
+struct Reaching {
+    files: MemFiles,
+    reach: u64,
+}
+
+impl Files for Reaching {
+    ghost held = { λ _. None };
+
+    ghost faults = { λ s. s.files.faults };
+
+    fn read_at(&mut self, name: &str, place: u64, buf: &mut [u8]) -> Result<usize, FileFault> {
+        self.reach = self.reach.max(place.saturating_add(buf.len() as u64));
+        self.files.read_at(name, place, buf)
+    }
+}
+
+#[test]
+fn asks_for_no_byte_past_the_limit_but_one(rt: HostRuntime) -> Result<(), Fail> {
+    let alloc = rt.alloc();
+    let bytes = sample(alloc)?;
+    for (limit, reach) in [(0, 1), (4, 5), (4096, 4097), (9_999, 10_000)] {
+        let mut files = MemFiles::new(alloc, &[])?;
+        files.add("sample", &bytes)?;
+        let mut reaching = Reaching { files, reach: 0 };
+        let refused = read_file(alloc, &mut reaching, "sample", limit);
+        assert_eq!(rt; refused.err(), Some(FileErr::TooLong), "limit {limit}");
+        assert_eq!(rt; reaching.reach, reach, "limit {limit}");
+    }
+    Ok(())
+}
+
+#[test]
+fn reads_files_of_the_system(rt: HostRuntime) -> Result<(), Fail> {
+    let alloc = rt.alloc();
+    let bytes = sample(alloc)?;
+    fs::write(&rt, "ten_thousand_bytes", bytes.as_slice())?;
+    let mut files = RealFiles::new(&rt);
+    let all = read_file(alloc, &mut files, "ten_thousand_bytes", LENGTH)?;
+    assert_eq!(rt; all.as_slice(), bytes.as_slice());
+    for (name, place, want) in [
+        ("ten_thousand_bytes", 9_998, Ok(2)),
+        ("ten_thousand_bytes", 10_001, Ok(0)),
+        ("ten_thousand_bytes", u64::MAX, Err(FileFault::Failed)),
+        ("none", 0, Err(FileFault::Missing)),
+        (".", 0, Err(FileFault::Failed)),
+        ("ten_thousand_bytes/none", 0, Err(FileFault::Failed)),
+    ] {
+        let mut buf = [0; 4];
+        let answer = files.read_at(name, place, &mut buf);
+        assert_eq!(rt; answer, want, "{name} at {place}");
+    }
+    fs::remove_file(&rt, "ten_thousand_bytes")?;
     Ok(())
 }
