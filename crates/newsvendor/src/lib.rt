@@ -6,7 +6,7 @@ mod solve;
 mod tests;
 
 use demand_law::Law;
-pub use solve::{NewsCert, cost_at, solve_newsvendor};
+pub use solve::{NewsCert, cost_at, solve_newsvendor, weighted_cost};
 use std::marker::Model;
 
 /// One order before one period of uncertain demand, as in Arrow, Harris and Marschak (1951).

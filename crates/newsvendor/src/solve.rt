@@ -1,5 +1,5 @@
 // The least level by the critical ratio, and the cost of any level.
-ghost use Rattle.std.specs.Prelude.{◌≡◌, ℕ, ◌+◌, ◌*◌, ◌<◌, ◌≤◌, sum, length, pos, ◌*ℤ◌};
+ghost use Rattle.std.specs.Prelude.{◌≡◌, ℕ, ◌+◌, ◌*◌, ◌^◌, ◌<◌, ◌≤◌, sum, length, pos, ◌*ℤ◌};
 ghost use Rattle.demand_law.specs.Law.{upto_of};
 ghost use Rattle.fraction128.specs.Reduced.{lowest_num, lowest_den};
 ghost use Rattle.newsvendor.specs.Cost.{mismatch_cost};
@@ -29,8 +29,8 @@ fn cost_at_demand(item: &Newsvendor, level: usize, demand: usize) -> u128
     u128::from(item.holding) * left as u128 + u128::from(item.stockout) * lacking as u128
 }
 
-// The expected cost of a level, times the sum of the weights.
-fn weighted_cost(item: &Newsvendor, level: u32) -> u128
+/// The expected cost of a level, times the sum of the weights.
+pub fn weighted_cost(item: &Newsvendor, level: u32) -> u128
     requires { level ≤ 10001 }
     ensures cost { pos result ≡ cost_of item.now level }
     ensures small { result ≤ 20002000000000000000 }
@@ -71,6 +71,7 @@ pub fn solve_newsvendor(item: &Newsvendor) -> NewsCert
     ensures exact { result.q ≡ first_least_upto (cost_of item.now) (length item.now.law) }
     ensures within { result.q < length item.now.law }
     ensures in_range { result.q ≤ 10000 }
+    ensures small { result.cost ≤ 2 ^ 120 }
 {
     let q = critical_level(item);
     NewsCert {

@@ -1,6 +1,6 @@
 use Rattle.std.proofs.Common.{arith}
-use Rattle.newsvendor.proofs.FirstLeast.{found}
-use Rattle.newsvendor.proofs.Convex.{least_by_ratio}
+use Rattle.newsvendor.specs.FirstLeast.{found}
+use Rattle.newsvendor.specs.CriticalRatio.{least_by_ratio}
 use Rattle.newsvendor.proofs.solve.solve_newsvendor.Goals as goal
 
 pub returns-clause-level : goal.returns-clause-level

@@ -1,9 +1,7 @@
-use Rattle.std.proofs.Common.{◌≡◌, ◌+◌, ◌*◌, ◌≤◌, ℕ, List, length, sum, take, slice_index, arith, ap}
+use Rattle.std.proofs.Common.{◌+◌, ◌*◌, ◌≤◌, length, sum, slice_index, arith}
 use Rattle.std.proofs.lemmas.Int.{ints}
-use Rattle.std.proofs.lemmas.List.{take_all}
 use Rattle.newsvendor.specs.Item.{IsNewsvendor}
-use Rattle.newsvendor.specs.Cost.{mismatch_cost, level_cost}
-use Rattle.newsvendor.proofs.Convex.{next_cost, next_small, cost_most}
+use Rattle.newsvendor.specs.CriticalRatio.{next_cost, next_small, cost_most}
 use Rattle.newsvendor.proofs.solve.weighted_cost.Goals as goal
 use Rattle.newsvendor.proofs.solve.weighted_cost.Goals.{After-cost_at_demand}
 

@@ -58,3 +58,15 @@ same_first cost n p q le p_is q_is (inr ge) = equal (cases_lt q p)
 -- the first level of least cost is what the search up to any level past it finds
 pub found : (cost : ℕ → ℤ) (n p : ℕ) → p ≤ n → IsFirstLeast cost p → p ≡ first_least_upto cost n
 found cost n p le h = same_first cost n p (first_least_upto cost n) le h (search_is_first cost n) (cases_lt p (first_least_upto cost n))
+
+-- where no level past n costs less than n, the search up to n finds the first level of least cost
+pub first_by_search : (cost : ℕ → ℤ) (n : ℕ) → ((k : ℕ) → n ≤ k → cost n ≤ℤ cost k) → IsFirstLeast cost (first_least_upto cost n)
+first_by_search cost n past = let h = search_is_first cost n in record { least = λ k. least_at h k (cases_lt k n); first = h.first }
+  where
+    least_at : IsFirstUpto cost n (first_least_upto cost n) → (k : ℕ) → (k < n) ⊎ (n ≤ k) → cost (first_least_upto cost n) ≤ℤ cost k
+    least_at h k (inl lt) = h.least k (omega arith)
+    least_at h k (inr le) = omega (arith, ints, h.least n (omega arith), past k le)
+
+-- the search looks no further
+pub search_within : (cost : ℕ → ℤ) (n : ℕ) → first_least_upto cost n ≤ n
+search_within cost n = (search_is_first cost n).within

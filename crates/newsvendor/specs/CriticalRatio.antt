@@ -1,5 +1,5 @@
 -- The cost falls while the weights are below the critical ratio, and doesn't fall afterwards.
-use Rattle.std.proofs.Common.{◌≡◌, ℕ, zero, suc, ◌+◌, ◌-◌, ◌*◌, ◌<◌, ◌≤◌, ℤ, pos, ◌+ℤ◌, ◌*ℤ◌, ◌≤ℤ◌, ◌<ℤ◌, List, [], ◌∷◌, length, sum, take, slice_index, refl, sym, ◌∙◌, ap, arith, Bool, true, false, nat_lt, ◌⊎◌, inl, inr, if◌then◌else◌}
+use Rattle.std.proofs.Common.{◌≡◌, ℕ, zero, suc, ◌+◌, ◌-◌, ◌*◌, ◌<◌, ◌≤◌, ℤ, pos, ◌+ℤ◌, ◌*ℤ◌, ◌≤ℤ◌, ◌<ℤ◌, List, [], ◌∷◌, length, sum, take, slice_index, refl, sym, ◌∙◌, ap, arith, nat_lt, ◌⊎◌, inl, inr, if◌then◌else◌}
 use Rattle.std.proofs.lemmas.Int.{ints}
 use Rattle.std.proofs.lemmas.Bool.{cases_lt}
 use Rattle.std.proofs.lemmas.Bool.Decides.{nat_tests}
@@ -14,7 +14,7 @@ use Rattle.newsvendor.specs.Least.{IsFirstLeast}
 
 -- ---- any cost of levels whose steps are known: cost (k + 1) − cost k is gain k − bound
 
-up : (cost gain : ℕ → ℤ) (bound : ℤ) (q : ℕ) → ((k : ℕ) → cost (k + 1) +ℤ bound ≡ cost k +ℤ gain k) → ((k : ℕ) → q ≤ k → bound ≤ℤ gain k) → (n : ℕ) → cost q ≤ℤ cost (q + n)
+pub up : (cost gain : ℕ → ℤ) (bound : ℤ) (q : ℕ) → ((k : ℕ) → cost (k + 1) +ℤ bound ≡ cost k +ℤ gain k) → ((k : ℕ) → q ≤ k → bound ≤ℤ gain k) → (n : ℕ) → cost q ≤ℤ cost (q + n)
 up cost gain bound q step high zero = let e : q + 0 ≡ q = omega arith in rw e (omega (arith, ints))
 up cost gain bound q step high (suc n) =
     let e : q + suc n ≡ q + n + 1 = omega arith in
@@ -92,7 +92,8 @@ level_step holding stockout law q =
     ∙ weighted-add law _ _
     ∙ ap (λ z. level_cost holding stockout law q +ℤ z) (weighted-scale (pos (holding + stockout)) law (λ d. below d (q + 1)) ∙ ap (λ z. pos (holding + stockout) *ℤ z) (weighted-below law (q + 1)))
 
-upto_rises : (law : List ℕ) (m n : ℕ) → m ≤ n → upto_of law m ≤ upto_of law n
+-- more weights lie up to a higher level
+pub upto_rises : (law : List ℕ) (m n : ℕ) → m ≤ n → upto_of law m ≤ upto_of law n
 upto_rises law m n h = let le : m + 1 ≤ n + 1 = omega arith in rw take-take at (sum_by-take-le (λ x. x) (take (n + 1) law) (m + 1))
 
 -- the first level that reaches the critical ratio is the first of least cost

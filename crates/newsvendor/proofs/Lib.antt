@@ -1,2 +1,0 @@
-pub mod Convex
-pub mod FirstLeast
