@@ -2,7 +2,6 @@
 use Rattle.std.proofs.Common.{◌≡◌, ℕ, zero, suc, ◌+◌, ◌*◌, ◌^◌, ◌<◌, ◌≤◌, List, [], ◌∷◌, sum, All, refl, inl, arith, ap, pow-suc}
 use Rattle.std.proofs.Math.Nat.{pow-le-pow_right, pow-zero}
 use Rattle.std.proofs.lemmas.Nat.{mul-le}
-use Rattle.demand_law.specs.Law.{greatest_of}
 use Rattle.demand_law.specs.Sequences.{Serves, laws_at, totals_of, greatest_in}
 use Rattle.decision_model.specs.declared.instance.Finite.{Finite}
 use Rattle.decision_model.specs.declared.instance.Average.{Average}

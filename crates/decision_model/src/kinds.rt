@@ -1,4 +1,5 @@
 // The kinds of instance.
+ghost use Rattle.std.specs.Prelude.{◌≡◌};
 
 /// The kind of an instance.
 #[derive(Clone, Copy, Debug, PartialEq, Eq)]
@@ -15,4 +16,22 @@ pub enum Kind {
     Serial,
     /// A network that is simulated.
     Network,
+}
+
+impl Kind {
+    ghost use Rattle.decision_model.specs.Kind.{kind_word};
+
+    /// The kind's name in instances, certificates and messages.
+    pub fn word(self) -> &'static str
+        ensures { result.now ≡ kind_word self }
+    {
+        match self {
+            Kind::News => "newsvendor",
+            Kind::Lots => "lots",
+            Kind::Finite => "finite",
+            Kind::Average => "average",
+            Kind::Serial => "serial",
+            Kind::Network => "network",
+        }
+    }
 }
