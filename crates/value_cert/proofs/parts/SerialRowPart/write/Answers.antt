@@ -1,0 +1,14 @@
+use Rattle.std.proofs.Common.{pos}
+use Rattle.value_cert.proofs.Writing.{line_failed, line_then, behind_line, each_one}
+use Rattle.value_cert.specs.Texts.{part_line}
+use Rattle.value_cert.specs.declared.line.CertLine.TheVariants.{Echelon}
+use Rattle.value_cert.proofs.parts.SerialRowPart.write.Goals as goal
+
+pub returns-in_err-write : goal.returns-in_err-write
+returns-in_err-write g c = line_failed c.in_err-write.ensures c.echelon_line-line.ensures c.from_residual.ensures.0
+
+pub write_each-requires : goal.write_each-requires
+write_each-requires g c = behind_line (Echelon (pos c.args.self.now.echelon) c.args.self.now.level) c.requires (each_one part_line _ _ c.as_slice.ensures)
+
+pub returns : goal.returns
+returns g c = line_then c.in_ok-write.ensures c.echelon_line-line.ensures c.write_each.ensures (each_one part_line _ _ c.as_slice.ensures)

@@ -1,0 +1,36 @@
+// Laws of certificates.
+ghost use Rattle.std.specs.Prelude.{◌≡◌, ℕ, ◌^◌, ◌<◌, ◌≤◌, List, [], ◌++◌, length, sum, Some, IsSome};
+ghost use Rattle.newsvendor.specs.Item.{NewsvendorItem, IsNewsvendor};
+ghost use Rattle.newsvendor.specs.declared.solve.NewsCert.{NewsCert};
+ghost use Rattle.value_cert.specs.Grammar.{place_after, IsFront, IsWhole};
+ghost use Rattle.value_cert.specs.Meaning.{IsLeastLevelAt};
+ghost use Rattle.value_cert.specs.Texts.{cert_lines, cert_text, lines_text, HasText};
+ghost use Rattle.value_cert.specs.declared.certificates.Cert.{Cert};
+ghost use Rattle.value_cert.specs.declared.certificates.LotCert.{LotCert};
+ghost use Rattle.value_cert.specs.declared.line.CertLine.{CertLine};
+ghost use Rattle.value_cert.specs.declared.place.Place.{Place};
+
+/// Lines can be carried on to a whole certificate exactly where there is a place behind them.
+pub fn fronts_have_places()
+    ensures front { (lines : List CertLine) (at : Place) → place_after lines ≡ Some at → IsFront lines }
+    ensures place { (lines : List CertLine) → IsFront lines → IsSome (place_after lines) }
+{}
+
+/// No certificate's text begins another's, and each text is of one certificate.
+pub fn texts_are_apart()
+    ensures certs { (a b : Cert) (more : List ℕ) → HasText a → HasText b → cert_text a ++ more ≡ cert_text b → (a ≡ b) × (more ≡ []) }
+    ensures lines { (a b : List CertLine) (more : List ℕ) → IsWhole a → IsWhole b → lines_text a ++ more ≡ lines_text b → (a ≡ b) × (more ≡ []) }
+{}
+
+/// Each whole list of lines is a certificate's, and of no other.
+pub fn lines_tell_certificates()
+    ensures some { (lines : List CertLine) → IsWhole lines → (c : Cert) × HasText c × (cert_lines c ≡ lines) }
+    ensures one { (a b : Cert) → HasText a → HasText b → cert_lines a ≡ cert_lines b → a ≡ b }
+{}
+
+/// A least level with its cost has a text, and so has a plan of some orders, one dual price an order and small sums.
+pub fn solutions_have_texts()
+    ensures levels { (item : NewsvendorItem) (c : NewsCert) → IsNewsvendor item → IsLeastLevelAt item c → c.q ≤ 2 ^ 120 → HasText (Cert.News c) }
+    ensures plans { (c : LotCert) → 0 < length c.orders → length c.duals ≡ length c.orders
+        → sum c.orders ≤ 2 ^ 120 → sum c.duals ≤ 2 ^ 120 → c.cost ≤ 2 ^ 120 → HasText (Cert.Lots c) }
+{}
