@@ -1,0 +1,8 @@
+//! Lot sizing: a least plan of orders for known demand, and the dual prices that prove it least.
+#![tactic(auto)]
+
+mod solve;
+#[cfg(test)]
+mod tests;
+
+pub use solve::solve_lots;
