@@ -1,0 +1,16 @@
+pub mod Levels
+pub mod LotBounds
+pub mod LotCells
+pub mod LotOrders
+pub mod LotChecks
+pub mod LotAnswers
+pub mod LotLines
+pub mod LotCertificates
+pub mod Breaches
+pub mod Places
+pub mod Newsvendors
+pub mod Checks
+pub mod Texts
+pub mod TextChecks
+pub mod Certified
+pub mod Own

@@ -1,0 +1,10 @@
+pub mod Tables
+pub mod Verdicts
+pub mod NewsAnswers
+pub mod NewsChecks
+pub mod LotsAnswers
+pub mod LotsChecks
+pub mod Kinds
+pub mod Checks
+pub mod Meaning
+pub mod TextChecks

@@ -1,0 +1,110 @@
+// The check of a certificate, line by line.
+ghost use Rattle.std.specs.Prelude.{◌≡◌, List, [], ◌∷◌, ◌++◌, length, None, Some};
+ghost use Rattle.decision_model.specs.declared.instance.Instance.{Instance};
+ghost use Rattle.decision_model.specs.Valid.{IsValid};
+ghost use Rattle.value_cert.specs.Breaches.{lines_breach};
+ghost use Rattle.value_cert.specs.declared.line.CertLine.{CertLine};
+ghost use Rattle.cert_check.specs.Kinds.{IsChecked};
+ghost use Rattle.cert_check.specs.Tables.{cell_count, sum_count};
+ghost use Rattle.cert_check.specs.Verdicts.{fed_verdict, end_verdict, passing_verdict};
+ghost use Rattle.cert_check.specs.Checks.{IsPassing, IsCheckOf};
+
+use crate::kind_check::KindCheck;
+use crate::verdicts::Verdict;
+use decision_model::Instance;
+use value_cert::{CertLine, Place};
+
+/// A check of a certificate for an instance, which is fed line by line.
+#[derive(Drop)]
+pub struct Check<'a> {
+    // What the lines so far say of the next one.
+    place: Place,
+    // The number of the next line, from 1, as far as it can count.
+    number: u64,
+    // The last answer.
+    verdict: Verdict,
+    // The rules of the instance's kind.
+    kind: KindCheck<'a>,
+}
+
+// The verdict on lines that break no rule, the next of which would stand at this place.
+fn verdict_at(place: Place) -> Verdict
+    ensures { result ≡ passing_verdict (Some place) }
+{
+    match place {
+        Place::Ended => Verdict::Accepted,
+        _ => Verdict::Going,
+    }
+}
+
+impl<'a> Check<'a> {
+    /// A check of a certificate for the instance, to which no line was fed. It works in the two tables, whose lengths
+    /// are `cells_of(item)` and `sums_of(item)`, whatever they hold.
+    pub fn new(item: &'a Instance, cells: &'a mut [i128], sums: &'a mut [u128]) -> Check<'a>
+        requires valid { IsValid item.now }
+        requires checked { IsChecked item.now }
+        requires cells { length cells.old ≡ cell_count item.now }
+        requires sums { length sums.old ≡ sum_count item.now }
+        ensures { IsCheckOf item.now result [] }
+    {
+        Check {
+            place: Place::Start,
+            number: 1,
+            verdict: Verdict::Going,
+            kind: KindCheck::new(item, cells, sums),
+        }
+    }
+
+    // The rejection of the next line.
+    pub(crate) fn rejection(&self, rule: u32) -> Verdict
+        ensures { result ≡ Verdict.Rejected self.now.number rule }
+    {
+        Verdict::Rejected {
+            line: self.number,
+            rule,
+        }
+    }
+
+    // The verdict on lines that broke no rule and a further one.
+    fn test(&mut self, line: &CertLine) -> Verdict
+        ensures answer { (item : Instance) (lines : List CertLine) → IsPassing item self.old lines →
+            result ≡ fed_verdict item (lines ++ line.now ∷ []) }
+        ensures passing { (item : Instance) (lines : List CertLine) → IsPassing item self.old lines →
+            lines_breach item (lines ++ line.now ∷ []) ≡ None → IsPassing item self.new (lines ++ line.now ∷ []) }
+    {
+        let Some(next) = self.place.after(line) else {
+            return self.rejection(1);
+        };
+        if let Some(rule) = self.kind.feed(line) {
+            return self.rejection(rule);
+        }
+        self.place = next;
+        self.number = self.number.saturating_add(1);
+        verdict_at(next)
+    }
+
+    /// Takes the next line: the verdict on the lines so far. Once one is rejected, each later answer is the same.
+    pub fn feed(&mut self, line: &CertLine) -> Verdict
+        ensures stands { (item : Instance) (lines : List CertLine) → IsCheckOf item self.old lines →
+            IsCheckOf item self.new (lines ++ line.now ∷ []) }
+        ensures answer { (item : Instance) (lines : List CertLine) → IsCheckOf item self.old lines →
+            result ≡ fed_verdict item (lines ++ line.now ∷ []) }
+    {
+        if self.verdict.is_rejected() {
+            return self.verdict;
+        }
+        let verdict = self.test(line);
+        self.verdict = verdict;
+        verdict
+    }
+
+    /// The verdict where no more lines come.
+    pub fn end(&self) -> Verdict
+        ensures { (item : Instance) (lines : List CertLine) → IsCheckOf item self.now lines → result ≡ end_verdict item lines }
+    {
+        match self.verdict {
+            Verdict::Going => self.rejection(1),
+            Verdict::Accepted | Verdict::Rejected { .. } => self.verdict,
+        }
+    }
+}

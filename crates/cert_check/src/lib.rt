@@ -1,0 +1,22 @@
+//! The checker of certificates: whoever wrote one, what it accepts names a policy than which none costs less, and its
+//! cost. It reads a certificate once, line by line, and works in tables that its caller hands in.
+#![tactic(auto)]
+
+mod check;
+mod kind_check;
+#[cfg(test)]
+mod lot_tests;
+mod lots;
+mod news;
+mod tables;
+#[cfg(test)]
+mod tests;
+mod text_check;
+mod verdicts;
+mod whole;
+
+pub use check::Check;
+pub use tables::{cells_of, sums_of};
+pub use text_check::TextCheck;
+pub use verdicts::Verdict;
+pub use whole::verdict;
