@@ -2,15 +2,14 @@
 use Rattle.std.specs.Prelude.{ℕ, List, [], ◌++◌, codes, decimal}
 use Rattle.demand_law.specs.declared.law.LawFault.{LawFault}
 use Rattle.demand_law.specs.declared.law.LawFault.TheVariants as law
-use Rattle.decision_model.specs.declared.kinds.Kind.{Kind}
-use Rattle.decision_model.specs.declared.kinds.Kind.TheVariants as kind
+use Rattle.decision_model.specs.Kind.{kind_word}
 use Rattle.instance_json.specs.declared.fault.Key.{Key}
 use Rattle.instance_json.specs.declared.fault.KeyList.{KeyList}
 use Rattle.instance_json.specs.declared.fault.KeyList.TheVariants.{Top, Nodes, Pauses}
 use Rattle.instance_json.specs.declared.fault.InstanceFault.{InstanceFault}
 use Rattle.instance_json.specs.declared.fault.InstanceFault.TheVariants as instance
 use Rattle.report_text.specs.declared.faults.Fault.{Fault}
-use Rattle.report_text.specs.declared.faults.Fault.TheVariants.{NotBuilt, TooLong, Instance, NotThisCommand, ReadFault, WriteFault, Memory}
+use Rattle.report_text.specs.declared.faults.Fault.TheVariants.{NoCommand, UnknownCommand, TooFew, TooMany, EmptyName, NoOption, BadNumber, TwoInputs, NotBuilt, MissingFile, TooLong, Instance, NotThisCommand, ReadFault, WriteFault, Memory}
 
 -- the place of a key's object, which the instance itself has none of
 abbrev pub place_words : KeyList → ℕ → List ℕ
@@ -50,18 +49,22 @@ instance_words (instance.Overlap pause) = codes "pause " ++ decimal pause ++ cod
 instance_words (instance.Load node) = codes "node " ++ decimal node ++ codes ": load"
 instance_words instance.Width = codes "too wide"
 
--- the kind's name in an instance
-abbrev pub kind_word : Kind → List ℕ
-kind_word kind.News = codes "newsvendor"
-kind_word kind.Lots = codes "lots"
-kind_word kind.Finite = codes "finite"
-kind_word kind.Average = codes "average"
-kind_word kind.Serial = codes "serial"
-kind_word kind.Network = codes "network"
+-- what is wrong with a word, from 1
+abbrev pub word_words : ℕ → List ℕ → List ℕ
+word_words word wrong = codes "word " ++ decimal word ++ wrong
 
 -- what the message says behind the program's name
 abbrev pub fault_words : Fault → List ℕ
-fault_words NotBuilt = codes "word 1: not built yet"
+fault_words NoCommand = codes "no command"
+fault_words UnknownCommand = word_words 1 (codes ": unknown command")
+fault_words (TooFew word) = word_words word (codes ": missing")
+fault_words (TooMany word) = word_words word (codes ": not expected")
+fault_words (EmptyName word) = word_words word (codes ": empty name")
+fault_words (NoOption word) = word_words word (codes ": no option is known")
+fault_words (BadNumber word) = word_words word (codes ": not a number from 0 to 999999")
+fault_words (TwoInputs word) = word_words word (codes ": standard input is already used")
+fault_words NotBuilt = word_words 1 (codes ": not built yet")
+fault_words (MissingFile name) = codes "file not found: " ++ name
 fault_words TooLong = codes "instance longer than 1048576 bytes"
 fault_words (Instance fault) = codes "instance: " ++ instance_words fault
 fault_words (NotThisCommand kind) = codes "this command does not take kind " ++ kind_word kind

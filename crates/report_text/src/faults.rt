@@ -1,6 +1,6 @@
 // The messages of refusals.
 ghost use Rattle.std.specs.Prelude.{◌≡◌, ◌++◌, OnOk, IfOk};
-ghost use Rattle.report_text.specs.Messages.{fault_message, fault_words, instance_words, key_words, place_words, law_words, kind_word};
+ghost use Rattle.report_text.specs.Messages.{fault_message, fault_words, instance_words, key_words, place_words, law_words, word_words};
 
 use crate::pieces::{push_both, push_numbered};
 use decision_model::Kind;
@@ -15,9 +15,27 @@ mod tests;
 /// Why a run doesn't end with its text, as standard error tells it.
 #[derive(Drop)]
 pub enum Fault {
+    /// There are no words.
+    NoCommand,
+    /// The first word is no command.
+    UnknownCommand,
+    /// The command needs a word at this place, from 1, where there is none.
+    TooFew(u32),
+    /// The command takes no word at this place.
+    TooMany(u32),
+    /// The word at this place is empty where a name is wanted.
+    EmptyName(u32),
+    /// The word at this place begins like an option.
+    NoOption(u32),
+    /// The word at this place is no number from 0 to 999,999.
+    BadNumber(u32),
+    /// The word at this place means standard input, as an earlier one does.
+    TwoInputs(u32),
     /// The command isn't built yet.
     NotBuilt,
-    /// The input has more bytes than an instance may have.
+    /// There is no file of this name.
+    MissingFile(Text),
+    /// The instance has more bytes than an instance may have.
     TooLong,
     /// The input says no instance.
     Instance(InstanceFault),
@@ -123,20 +141,6 @@ fn push_instance_fault(alloc: Global, out: &mut Text, fault: &InstanceFault) -> 
     }
 }
 
-// The kind's name in an instance.
-fn kind_name(kind: Kind) -> &'static str
-    ensures { result.now ≡ kind_word kind }
-{
-    match kind {
-        Kind::News => "newsvendor",
-        Kind::Lots => "lots",
-        Kind::Finite => "finite",
-        Kind::Average => "average",
-        Kind::Serial => "serial",
-        Kind::Network => "network",
-    }
-}
-
 // Appends that the command doesn't take the kind.
 fn push_wrong_kind(out: &mut Text, kind: Kind) -> Result<(), Memory>
     ensures { OnOk result (out.new ≡ out.old ++ fault_words (Fault.NotThisCommand kind)) }
@@ -144,8 +148,22 @@ fn push_wrong_kind(out: &mut Text, kind: Kind) -> Result<(), Memory>
     push_both(
         out,
         "this command does not take kind ",
-        kind_name(kind).as_bytes(),
+        kind.word().as_bytes(),
     )
+}
+
+// Appends what is wrong with the word at a place, from 1.
+fn push_word(alloc: Global, out: &mut Text, word: u32, wrong: &str) -> Result<(), Memory>
+    ensures { OnOk result (out.new ≡ out.old ++ word_words word wrong.now) }
+{
+    push_numbered(alloc, out, "word ", word, wrong)
+}
+
+// Appends that there is no file of this name.
+fn push_missing(out: &mut Text, name: &Text) -> Result<(), Memory>
+    ensures { OnOk result (out.new ≡ out.old ++ fault_words (Fault.MissingFile name.now)) }
+{
+    push_both(out, "file not found: ", name.bytes())
 }
 
 // Appends that the input of this name failed.
@@ -160,7 +178,16 @@ fn push_fault(alloc: Global, out: &mut Text, fault: &Fault) -> Result<(), Memory
     ensures { OnOk result (out.new ≡ out.old ++ fault_words fault.now) }
 {
     match fault {
-        Fault::NotBuilt => out.push(b"word 1: not built yet"),
+        Fault::NoCommand => out.push(b"no command"),
+        Fault::UnknownCommand => push_word(alloc, out, 1, ": unknown command"),
+        Fault::TooFew(word) => push_word(alloc, out, *word, ": missing"),
+        Fault::TooMany(word) => push_word(alloc, out, *word, ": not expected"),
+        Fault::EmptyName(word) => push_word(alloc, out, *word, ": empty name"),
+        Fault::NoOption(word) => push_word(alloc, out, *word, ": no option is known"),
+        Fault::BadNumber(word) => push_word(alloc, out, *word, ": not a number from 0 to 999999"),
+        Fault::TwoInputs(word) => push_word(alloc, out, *word, ": standard input is already used"),
+        Fault::NotBuilt => push_word(alloc, out, 1, ": not built yet"),
+        Fault::MissingFile(name) => push_missing(out, name),
         Fault::TooLong => out.push(b"instance longer than 1048576 bytes"),
         Fault::Instance(wrong) => {
             out.push(b"instance: ")?;

@@ -3,8 +3,12 @@
 
 mod demand;
 mod faults;
+mod help;
 mod laws;
 mod pieces;
+mod reports;
 
 pub use demand::demand_text;
 pub use faults::{Fault, fault_text};
+pub use help::help_text;
+pub use reports::report;

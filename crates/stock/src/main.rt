@@ -5,7 +5,7 @@ use std::io::{Error, ErrorKind};
 use std::process::ExitCode;
 use std::{env, io};
 use stock_cli::stock;
-use stock_edge::{RealSink, RealSource};
+use stock_edge::{RealFiles, RealSink, RealSource};
 
 /// The exit code where memory is wanting before the top call runs; that of `Status::Memory`.
 const NO_MEMORY: u8 = 7;
@@ -33,8 +33,16 @@ fn main(rt: HostRuntime) -> ExitCode {
         }
     }
     let mut input = RealSource::new(rt.reader());
+    let mut files = RealFiles::new(&rt);
     let mut out = RealSink::new(io::writer(&rt));
     let mut err = RealSink::new(rt.stderr());
-    let status = stock(rt.alloc(), &words, &mut input, &mut out, &mut err);
+    let status = stock(
+        rt.alloc(),
+        &words,
+        &mut input,
+        &mut files,
+        &mut out,
+        &mut err,
+    );
     ExitCode::from(status.code())
 }

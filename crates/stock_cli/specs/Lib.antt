@@ -1,5 +1,7 @@
 pub mod Words
 pub mod Status
-pub mod Report
+pub mod Inputs
 pub mod Outcome
-pub mod Told
+pub mod Claims
+pub mod Causes
+pub mod Checks

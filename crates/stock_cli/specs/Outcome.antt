@@ -1,5 +1,5 @@
--- What a run writes and answers, as a function of its words and its input. It knows nothing of pieces, faults or memory.
-use Rattle.std.specs.Prelude.{ℕ, List, [], length, if◌then◌else◌, nat_lt, Option, Some, None, Result, Ok, Err, String}
+-- How a run ends, as a function of its words and of what its inputs hold. It knows nothing of pieces, faults or memory.
+use Rattle.std.specs.Prelude.{ℕ, List, [], ◌++◌, length, codes, decimal, if◌then◌else◌, nat_lt, Option, Some, None, Result, Ok, Err, String}
 use Rattle.std.specs.declared.alloc.Global.{Global}
 use Rattle.decision_model.specs.Kind.{kind_of}
 use Rattle.decision_model.specs.declared.instance.Instance.{Instance}
@@ -7,51 +7,143 @@ use Rattle.decision_model.specs.declared.instance.Instance.TheVariants.{News, Lo
 use Rattle.instance_json.specs.Reads.{reads}
 use Rattle.instance_json.specs.declared.fault.InstanceFault.{InstanceFault}
 use Rattle.instance_json.specs.declared.fault.InstanceFault.TheVariants as instance
+use Rattle.value_cert.specs.Breaches.{Breach, text_breach}
+use Rattle.value_cert.specs.Meaning.{solved_cert}
+use Rattle.value_cert.specs.Texts.{HasText, cert_text}
+use Rattle.value_cert.specs.declared.certificates.Cert.{Cert}
 use Rattle.report_text.specs.Demand.{demand_text_of}
+use Rattle.report_text.specs.Reports.{report_of, help_words}
 use Rattle.report_text.specs.declared.faults.Fault.{Fault}
 use Rattle.report_text.specs.declared.faults.Fault.TheVariants as fault
-use Rattle.stock_cli.specs.Report.{report_of}
-use Rattle.stock_cli.specs.Status.{status_of}
+use Rattle.stock_edge.specs.HeldFiles.{Held}
+use Rattle.stock_cli.specs.Inputs.{Content, content_of}
+use Rattle.stock_cli.specs.Status.{status_of, word_fault}
 use Rattle.stock_cli.specs.Words.{command_of}
+use Rattle.stock_cli.specs.declared.answers.Answer.{Answer}
+use Rattle.stock_cli.specs.declared.answers.Answer.TheVariants as answer
+use Rattle.stock_cli.specs.declared.answers.Question.{Question}
+use Rattle.stock_cli.specs.declared.answers.Question.TheVariants as question
 use Rattle.stock_cli.specs.declared.words.Command.{Command}
-use Rattle.stock_cli.specs.declared.words.Command.TheVariants.{Solve, Demand}
+use Rattle.stock_cli.specs.declared.words.Command.TheVariants as command
+use Rattle.stock_cli.specs.declared.words.WordErr.{WordErr}
 use Rattle.stock_cli.specs.declared.status.Status.{Status}
-use Rattle.stock_cli.specs.declared.status.Status.TheVariants.{Done}
+use Rattle.stock_cli.specs.declared.status.Status.TheVariants.{Done, Rejected}
 
--- the report, for the kind whose solver is built
-abbrev pub solve_outcome : Instance → Result (List ℕ) Fault
-solve_outcome (News item) = Ok (report_of item)
-solve_outcome _ = Err (fault.Instance instance.NotBuilt)
+-- the text on standard output, and the status with it
+pub record Output : Type 0 where
+  pub status : Status
+  pub text : List ℕ
+
+-- how a run ends: with an output or a fault, where what it reads is told
+abbrev pub Ending : Type 0
+Ending = Option (Result Output Fault)
+
+abbrev pub done : List ℕ → Result Output Fault
+done text = Ok (record { status = Done; text = text })
+
+abbrev pub refused : Fault → Ending
+refused f = Some (Err f)
+
+-- ---- what each command makes of an instance
+-- something of the instance's certificate, for the kinds whose solver is built
+abbrev pub of_cert : (Cert → List ℕ) → Option Cert → Result Output Fault
+of_cert text (Some c) = done (text c)
+of_cert text None = Err (fault.Instance instance.NotBuilt)
+
+abbrev pub solve_outcome : Instance → Result Output Fault
+solve_outcome item = of_cert (report_of item) (solved_cert item)
+
+abbrev pub certify_outcome : Instance → Result Output Fault
+certify_outcome item = of_cert cert_text (solved_cert item)
 
 -- the laws of demand, for the kinds that have them
-abbrev pub demand_outcome : Instance → Result (List ℕ) Fault
+abbrev pub demand_outcome : Instance → Result Output Fault
 demand_outcome (Lots item) = Err (fault.NotThisCommand (kind_of (Lots item)))
-demand_outcome item = Ok (demand_text_of item)
+demand_outcome item = done (demand_text_of item)
 
-abbrev pub instance_outcome : Command → Instance → Result (List ℕ) Fault
-instance_outcome Solve item = solve_outcome item
-instance_outcome Demand item = demand_outcome item
+abbrev pub accepted_text : List ℕ
+accepted_text = codes "accepted\n"
 
-abbrev pub reading_outcome : Command → Result Instance InstanceFault → Result (List ℕ) Fault
-reading_outcome command (Ok item) = instance_outcome command item
-reading_outcome command (Err f) = Err (fault.Instance f)
+abbrev pub rejection_text : ℕ → ℕ → List ℕ
+rejection_text line rule = codes "rejected line " ++ decimal line ++ codes " rule " ++ decimal rule ++ codes "\n"
+
+-- what a check says: accepted, or the line and the rule of the first breach
+abbrev pub verdict_output : Option Breach → Output
+verdict_output None = record { status = Done; text = accepted_text }
+verdict_output (Some breach) = record { status = Rejected; text = rejection_text breach.line breach.rule }
+
+abbrev pub verdict_ending : Instance → Content → Ending
+verdict_ending item None = None
+verdict_ending item (Some (Ok text)) = Some (Ok (verdict_output (text_breach item text)))
+verdict_ending item (Some (Err f)) = refused f
+
+-- a certificate is checked for the kinds whose solver is built
+abbrev pub check_ending : Content → Instance → Option Cert → Ending
+check_ending content item (Some c) = verdict_ending item content
+check_ending content item None = refused (fault.Instance instance.NotBuilt)
+
+-- ---- reading the instance
+abbrev pub read_ending : (Instance → Ending) → Result Instance InstanceFault → Ending
+read_ending answer (Ok item) = answer item
+read_ending answer (Err f) = refused (fault.Instance f)
 
 -- an instance has at most 1,048,576 bytes
-abbrev pub bytes_outcome : Command → List ℕ → Result (List ℕ) Fault
-bytes_outcome command bytes = if nat_lt 1048576 (length bytes) then Err fault.TooLong else reading_outcome command (reads bytes)
+abbrev pub bytes_ending : (Instance → Ending) → List ℕ → Ending
+bytes_ending answer bytes = if nat_lt 1048576 (length bytes) then refused fault.TooLong else read_ending answer (reads bytes)
 
-abbrev pub command_outcome : Option Command → List ℕ → Result (List ℕ) Fault
-command_outcome None bytes = Err fault.NotBuilt
-command_outcome (Some command) bytes = bytes_outcome command bytes
+abbrev pub instance_ending : (Instance → Ending) → Content → Ending
+instance_ending answer None = None
+instance_ending answer (Some (Ok bytes)) = bytes_ending answer bytes
+instance_ending answer (Some (Err f)) = refused f
 
--- the text on standard output, or the fault
-abbrev pub outcome_of : List (String Global) → List ℕ → Result (List ℕ) Fault
-outcome_of words bytes = command_outcome (command_of words) bytes
+-- a check of one input against the instance of another
+abbrev pub compare_ending : Option (List ℕ) → Option Held → List (String Global) → Option ℕ → Option ℕ → Ending
+compare_ending left held words input cert =
+    instance_ending (λ item. check_ending (content_of left held words cert) item (solved_cert item)) (content_of left held words input)
 
-abbrev pub text_of : Result (List ℕ) Fault → List ℕ
-text_of (Ok text) = text
+-- ---- the words
+-- how a command ends
+abbrev pub command_ending : Option (List ℕ) → Option Held → List (String Global) → Command → Ending
+command_ending left held words (command.Solve input) = instance_ending (λ item. Some (solve_outcome item)) (content_of left held words input)
+command_ending left held words (command.Certify input) = instance_ending (λ item. Some (certify_outcome item)) (content_of left held words input)
+command_ending left held words (command.Demand input) = instance_ending (λ item. Some (demand_outcome item)) (content_of left held words input)
+command_ending left held words (command.Check None None) = refused (fault.TwoInputs 3)
+command_ending left held words (command.Check input cert) = compare_ending left held words input cert
+command_ending left held words (command.Simulate input) = refused fault.NotBuilt
+command_ending left held words (command.Trial number) = refused fault.NotBuilt
+command_ending left held words command.Help = Some (done help_words)
+
+abbrev pub words_ending : Option (List ℕ) → Option Held → List (String Global) → Result Command WordErr → Ending
+words_ending left held words (Ok command) = command_ending left held words command
+words_ending left held words (Err e) = refused (word_fault e)
+
+-- how a run ends, from the bytes of standard input and the files that are held, as far as the objects tell them
+abbrev pub ending_of : Option (List ℕ) → Option Held → List (String Global) → Ending
+ending_of left held words = words_ending left held words (command_of words)
+
+abbrev pub text_of : Result Output Fault → List ℕ
+text_of (Ok output) = output.text
 text_of (Err f) = []
 
-abbrev pub status_of_outcome : Result (List ℕ) Fault → Status
-status_of_outcome (Ok text) = Done
+abbrev pub status_of_outcome : Result Output Fault → Status
+status_of_outcome (Ok output) = output.status
 status_of_outcome (Err f) = status_of f
+
+-- ---- answers
+-- a question that needs one instance and nothing else
+abbrev pub question_outcome : Question → Instance → Result Output Fault
+question_outcome question.Solve item = solve_outcome item
+question_outcome question.Certify item = certify_outcome item
+question_outcome question.Demand item = demand_outcome item
+
+-- what an answer puts on standard output, and the status with it
+abbrev pub output_of : Answer → Output
+output_of (answer.Printed text) = record { status = Done; text = text }
+output_of (answer.Rejection text) = record { status = Rejected; text = text }
+output_of (answer.Certificate c) = record { status = Done; text = cert_text c }
+output_of answer.Help = record { status = Done; text = help_words }
+
+-- a certificate that is to be written has a text
+abbrev pub AnswerHasText : Answer → Type 0
+AnswerHasText (answer.Certificate c) = HasText c
+AnswerHasText _ = Unit {0}

@@ -4,6 +4,8 @@ use Rattle.instance_json.specs.declared.fault.InstanceFault.{InstanceFault}
 use Rattle.instance_json.specs.declared.fault.InstanceFault.TheVariants as instance
 use Rattle.report_text.specs.declared.faults.Fault.{Fault}
 use Rattle.report_text.specs.declared.faults.Fault.TheVariants as fault
+use Rattle.stock_cli.specs.declared.words.WordErr.{WordErr}
+use Rattle.stock_cli.specs.declared.words.WordErr.TheVariants as words
 use Rattle.stock_cli.specs.declared.status.Status.{Status}
 use Rattle.stock_cli.specs.declared.status.Status.TheVariants.{Done, Rejected, Words, Input, ReadFault, WriteFault, Width, Memory, House}
 
@@ -27,7 +29,6 @@ IsDecided _ = Unit {0}
 
 -- a command that is built can end so
 abbrev pub IsGiven : Status → Type 0
-IsGiven Rejected = ⊥
 IsGiven House = ⊥
 IsGiven _ = Unit {0}
 
@@ -46,10 +47,33 @@ instance_status _ = Input
 
 -- the status of a run that is refused for a fault
 abbrev pub status_of : Fault → Status
-status_of fault.NotBuilt = Words
+status_of (fault.MissingFile name) = Input
 status_of fault.TooLong = Input
 status_of (fault.Instance f) = instance_status f
 status_of (fault.NotThisCommand kind) = Input
 status_of (fault.ReadFault name) = ReadFault
 status_of fault.WriteFault = WriteFault
 status_of fault.Memory = Memory
+status_of _ = Words
+
+-- the fault of words that name no command
+abbrev pub word_fault : WordErr → Fault
+word_fault words.NoCommand = fault.NoCommand
+word_fault words.UnknownCommand = fault.UnknownCommand
+word_fault (words.TooFew word) = fault.TooFew word
+word_fault (words.TooMany word) = fault.TooMany word
+word_fault (words.EmptyName word) = fault.EmptyName word
+word_fault (words.NoOption word) = fault.NoOption word
+word_fault (words.BadNumber word) = fault.BadNumber word
+word_fault (words.TwoInputs word) = fault.TwoInputs word
+
+-- the fault is not one of the words
+abbrev pub IsOfInputs : Fault → Type 0
+IsOfInputs (fault.MissingFile name) = Unit {0}
+IsOfInputs fault.TooLong = Unit {0}
+IsOfInputs (fault.Instance f) = Unit {0}
+IsOfInputs (fault.NotThisCommand kind) = Unit {0}
+IsOfInputs (fault.ReadFault name) = Unit {0}
+IsOfInputs fault.WriteFault = Unit {0}
+IsOfInputs fault.Memory = Unit {0}
+IsOfInputs _ = ⊥

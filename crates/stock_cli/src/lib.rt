@@ -1,7 +1,10 @@
-//! The command line of `stock`: from words and standard input to a text, a message and a status.
+//! The command line of `stock`: from words, standard input and files to a text, a message and a
+//! status.
 #![tactic(auto)]
 
-mod report;
+mod answers;
+mod check;
+mod inputs;
 mod status;
 #[cfg(test)]
 mod tests;
@@ -10,3 +13,4 @@ mod words;
 
 pub use status::Status;
 pub use top::stock;
+pub use words::{Command, WordErr, read_words};

@@ -52,7 +52,7 @@ pub fn status_for(fault: &Fault) -> Status
     ensures { result ≡ status_of fault.now }
 {
     match fault {
-        Fault::NotBuilt => Status::Words,
+        Fault::MissingFile(_) => Status::Input,
         Fault::TooLong => Status::Input,
         Fault::Instance(InstanceFault::Width) => Status::Width,
         Fault::Instance(_) => Status::Input,
@@ -60,5 +60,6 @@ pub fn status_for(fault: &Fault) -> Status
         Fault::ReadFault(_) => Status::ReadFault,
         Fault::WriteFault => Status::WriteFault,
         Fault::Memory => Status::Memory,
+        _ => Status::Words,
     }
 }

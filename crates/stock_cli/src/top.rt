@@ -1,192 +1,276 @@
 // The top call.
-ghost use Rattle.std.specs.Prelude.{◌≡◌, ◌≢◌, ◌⊎◌, ◌≤◌, ℕ, List, [], ◌∷◌, codes, None, Some, Ok, Err, IfOk, IfErr, OnOk, IfSome, IsOk, IsSome};
+ghost use Rattle.std.specs.Prelude.{◌≡◌, ◌≢◌, ◌⊎◌, ◌≤◌, ℕ, List, None, Some, Ok, Err, IfOk, IfErr, OnOk, IfSome, IsOk, IsSome};
 ghost use Rattle.std.specs.Io.KnownBytes.{Appends, IsAtEnd, Keeps};
-ghost use Rattle.decision_model.specs.Kind.{kind_of};
-ghost use Rattle.decision_model.specs.Valid.{IsValid};
-ghost use Rattle.instance_json.specs.Reads.{reads};
-ghost use Rattle.report_text.specs.Demand.{demand_text_of};
 ghost use Rattle.stock_edge.specs.Causes.{Rose, AppendsPrefix};
-ghost use Rattle.stock_cli.specs.Outcome.{solve_outcome, demand_outcome, instance_outcome, reading_outcome, outcome_of, status_of_outcome, text_of};
-ghost use Rattle.stock_cli.specs.Report.{IsReport, IsReportOn};
-ghost use Rattle.stock_cli.specs.Status.{IsDecided, IsGiven, WritesNothing};
-ghost use Rattle.stock_cli.specs.Told.{IsRefused, IsToldOf, IsTold};
+ghost use Rattle.stock_cli.specs.Causes.{command_fault, words_fault, IsInputOf, IsCheck, ReadsInput, counts_of, FailedAt, FailedAtOneOf, IsUnread, IsRefused, IsToldOf, IsTold, HasMessage};
+ghost use Rattle.stock_cli.specs.Claims.{OfInstance, QuestionClaims, CompareClaims, Claims};
+ghost use Rattle.stock_cli.specs.Inputs.{content_of};
+ghost use Rattle.stock_cli.specs.Outcome.{instance_ending, question_outcome, compare_ending, command_ending, ending_of, output_of, AnswerHasText, status_of_outcome, text_of};
+ghost use Rattle.stock_cli.specs.Status.{IsDecided, IsGiven, IsOfInputs, WritesNothing, word_fault};
 ghost use Rattle.stock_cli.specs.Words.{command_of};
 
-use crate::report::report;
+use crate::answers::{Answer, Question, answer_on, status_with, write_answer};
+use crate::check::check;
+use crate::inputs::read_item;
 use crate::status::{Status, status_for};
-use crate::words::{Command, read_command};
-use decision_model::{Instance, Kind, kind};
-use fraction128::{Memory, Text};
-use instance_json::{InstanceErr, InstanceFault, read_instance};
-use report_text::{Fault, demand_text, fault_text};
+use crate::words::{Command, WordErr, read_words};
+use fraction128::Memory;
+use report_text::{Fault, fault_text};
 use std::alloc::Global;
-use stock_edge::{ReadErr, Sink, Source, read_all, write_all};
+use stock_edge::{Files, Sink, Source, write_all};
 
-/// The greatest number of bytes of an instance.
-const LONGEST: usize = 1_048_576;
+/// The message of an output that failed, for which no memory is taken.
+const CANNOT_WRITE: &[u8] = b"stock: cannot write\n";
 
-fn solve(alloc: Global, item: &Instance) -> Result<Text, Fault>
-    ensures ok { IfOk result (λ text. solve_outcome item.now ≡ Ok text) }
-    ensures report { IfOk result (IsReportOn item.now) }
-    ensures err { IfErr result (λ e. (e ≡ Fault.Memory) ⊎ (solve_outcome item.now ≡ Err e)) }
+// The answer to a question on the instance of an input.
+fn ask<I: Source, F: Files>(
+    alloc: Global,
+    question: Question,
+    words: &[String],
+    at: Option<usize>,
+    input: &mut I,
+    files: &mut F,
+) -> Result<Answer, Fault>
+    ensures ok { IfOk result (λ answer. IfSome
+        (instance_ending (λ item. Some (question_outcome question item)) (content_of (I.left input.old) (F.held files.old) words.now at))
+        (λ end. end ≡ Ok (output_of answer))) }
+    ensures claims { IfOk result (λ answer. IfSome (content_of (I.left input.old) (F.held files.old) words.now at)
+        (λ found. OfInstance found (QuestionClaims question (output_of answer).text))) }
+    ensures done { IfOk result (λ answer. (output_of answer).status ≡ Status.Done) }
+    ensures has_text { IfOk result AnswerHasText }
+    ensures end { OnOk result (at ≡ None → IsAtEnd (I.left input.new)) }
+    ensures refused { IfErr result (IsRefused
+        (FailedAt (counts_of (I.faults input.old) (I.faults input.new) (F.faults files.old) (F.faults files.new)) words.now at)
+        (instance_ending (λ item. Some (question_outcome question item)) (content_of (I.left input.old) (F.held files.old) words.now at))) }
+    ensures of_inputs { IfErr result IsOfInputs }
+    ensures later_input { I.faults input.old ≤ I.faults input.new }
+    ensures later_files { F.faults files.old ≤ F.faults files.new }
 {
-    match item {
-        Instance::News(item) => match report(alloc, item) {
-            Ok(text) => Ok(text),
-            Err(Memory) => Err(Fault::Memory),
-        },
-        _ => Err(Fault::Instance(InstanceFault::NotBuilt)),
-    }
+    let item = read_item(alloc, words, at, input, files)?;
+    answer_on(alloc, question, &item)
 }
 
-// The laws of demand of an instance that has some.
-fn laws(alloc: Global, item: &Instance) -> Result<Text, Fault>
-    requires valid { IsValid item.now }
-    requires not_lots { kind_of item.now ≢ Kind.Lots }
-    ensures ok { IfOk result (λ text. text ≡ demand_text_of item.now) }
-    ensures err { IfErr result (λ e. e ≡ Fault.Memory) }
+// The answer to a check of one input against the instance of another, one of them a file.
+fn compare<I: Source, F: Files>(
+    alloc: Global,
+    words: &[String],
+    at: Option<usize>,
+    cert_at: Option<usize>,
+    input: &mut I,
+    files: &mut F,
+) -> Result<Answer, Fault>
+    requires { at ≡ None → cert_at ≡ None → ⊥ }
+    ensures ok { IfOk result (λ answer. IfSome
+        (compare_ending (I.left input.old) (F.held files.old) words.now at cert_at) (λ end. end ≡ Ok (output_of answer))) }
+    ensures claims { IfOk result (λ answer. (output_of answer).status ≡ Status.Done →
+        CompareClaims (I.left input.old) (F.held files.old) words.now at cert_at) }
+    ensures has_text { IfOk result AnswerHasText }
+    ensures end_item { IfOk result (λ answer. at ≡ None → IsAtEnd (I.left input.new)) }
+    ensures end_cert { IfOk result (λ answer. (output_of answer).status ≡ Status.Done → cert_at ≡ None → IsAtEnd (I.left input.new)) }
+    ensures refused { IfErr result (IsRefused
+        (FailedAtOneOf (counts_of (I.faults input.old) (I.faults input.new) (F.faults files.old) (F.faults files.new)) words.now at cert_at)
+        (compare_ending (I.left input.old) (F.held files.old) words.now at cert_at)) }
+    ensures of_inputs { IfErr result IsOfInputs }
+    ensures later_input { I.faults input.old ≤ I.faults input.new }
+    ensures later_files { F.faults files.old ≤ F.faults files.new }
 {
-    match demand_text(alloc, item) {
-        Ok(text) => Ok(text),
-        Err(Memory) => Err(Fault::Memory),
-    }
+    let item = read_item(alloc, words, at, input, files)?;
+    check(alloc, &item, words, cert_at, input, files)
 }
 
-fn demand(alloc: Global, item: &Instance) -> Result<Text, Fault>
-    requires { IsValid item.now }
-    ensures ok { IfOk result (λ text. demand_outcome item.now ≡ Ok text) }
-    ensures err { IfErr result (λ e. (e ≡ Fault.Memory) ⊎ (demand_outcome item.now ≡ Err e)) }
+// The answer to a check, which doesn't take both inputs from standard input.
+fn answer_check<I: Source, F: Files>(
+    alloc: Global,
+    words: &[String],
+    at: Option<usize>,
+    cert_at: Option<usize>,
+    input: &mut I,
+    files: &mut F,
+) -> Result<Answer, Fault>
+    ensures ok { IfOk result (λ answer. IfSome
+        (command_ending (I.left input.old) (F.held files.old) words.now (Command.Check at cert_at)) (λ end. end ≡ Ok (output_of answer))) }
+    ensures claims { IfOk result (λ answer. (output_of answer).status ≡ Status.Done →
+        Claims (I.left input.old) (F.held files.old) words.now (output_of answer).text (Command.Check at cert_at)) }
+    ensures has_text { IfOk result AnswerHasText }
+    ensures end { IfOk result (λ answer. (output_of answer).status ≡ Status.Done → IsInputOf (Command.Check at cert_at) None → IsAtEnd (I.left input.new)) }
+    ensures refused { IfErr result (IsRefused
+        (IsUnread (counts_of (I.faults input.old) (I.faults input.new) (F.faults files.old) (F.faults files.new)) words.now (Ok (Command.Check at cert_at)))
+        (command_ending (I.left input.old) (F.held files.old) words.now (Command.Check at cert_at))) }
+    ensures of_words { IfErr result (λ fault. IsOfInputs fault ⊎ (command_fault (Command.Check at cert_at) ≡ Some fault)) }
+    ensures built { (fault : Fault) → command_fault (Command.Check at cert_at) ≡ Some fault → result ≡ Err fault }
+    ensures later_input { I.faults input.old ≤ I.faults input.new }
+    ensures later_files { F.faults files.old ≤ F.faults files.new }
 {
-    match item {
-        Instance::Lots(_) => Err(Fault::NotThisCommand(kind(item))),
-        Instance::News(_) => laws(alloc, item),
-        Instance::Finite(_) => laws(alloc, item),
-        Instance::Average(_) => laws(alloc, item),
-        Instance::Serial(_) => laws(alloc, item),
-    }
-}
-
-fn answer_for(alloc: Global, command: Command, item: &Instance) -> Result<Text, Fault>
-    requires { IsValid item.now }
-    ensures ok { IfOk result (λ text. instance_outcome command item.now ≡ Ok text) }
-    ensures report { IfOk result (λ text. command ≡ Command.Solve → IsReportOn item.now text) }
-    ensures err { IfErr result (λ e. (e ≡ Fault.Memory) ⊎ (instance_outcome command item.now ≡ Err e)) }
-{
-    match command {
-        Command::Solve => solve(alloc, item),
-        Command::Demand => demand(alloc, item),
-    }
-}
-
-// What the command writes on the instance that bytes say.
-fn run(alloc: Global, command: Command, bytes: &[u8]) -> Result<Text, Fault>
-    ensures ok { IfOk result (λ text. reading_outcome command (reads bytes.now) ≡ Ok text) }
-    ensures report { IfOk result (λ text. command ≡ Command.Solve → IsReport bytes.now text) }
-    ensures err { IfErr result (λ e. (e ≡ Fault.Memory) ⊎ (reading_outcome command (reads bytes.now) ≡ Err e)) }
-{
-    match read_instance(alloc, bytes) {
-        Ok(item) => answer_for(alloc, command, &item),
-        Err(InstanceErr::Bad(fault)) => Err(Fault::Instance(fault)),
-        Err(InstanceErr::Memory) => Err(Fault::Memory),
-    }
-}
-
-// The fault of standard input.
-fn read_fault(alloc: Global) -> Fault
-    ensures { (result ≡ Fault.Memory) ⊎ (result ≡ Fault.ReadFault (codes "-")) }
-{
-    let mut name = Text::new(alloc);
-    match name.push(b"-") {
-        Ok(()) => Fault::ReadFault(name),
-        Err(Memory) => Fault::Memory,
+    match (at, cert_at) {
+        (None, None) => Err(Fault::TwoInputs(3)),
+        _ => compare(alloc, words, at, cert_at, input, files),
     }
 }
 
 // What is to be written, before any of it is.
-fn answer<I: Source>(alloc: Global, words: &[String], input: &mut I) -> Result<Text, Fault>
-    ensures ok { IfOk result (λ text. IfSome (I.left input.old) (λ bytes. outcome_of words.now bytes ≡ Ok text)) }
-    ensures report { IfOk result (λ text. command_of words.now ≡ Some Command.Solve
-        → IfSome (I.left input.old) (λ bytes. IsReport bytes text)) }
-    ensures err { IfErr result (IsRefused (I.faults input.old) (I.faults input.new) (I.left input.old) words.now) }
-    ensures words { command_of words.now ≡ None → result ≡ Err Fault.NotBuilt }
-    ensures later { I.faults input.old ≤ I.faults input.new }
-    ensures end { OnOk result (IsAtEnd (I.left input.new)) }
+fn answer<I: Source, F: Files>(
+    alloc: Global,
+    words: &[String],
+    command: Command,
+    input: &mut I,
+    files: &mut F,
+) -> Result<Answer, Fault>
+    ensures ok { IfOk result (λ answer. IfSome
+        (command_ending (I.left input.old) (F.held files.old) words.now command) (λ end. end ≡ Ok (output_of answer))) }
+    ensures claims { IfOk result (λ answer. (output_of answer).status ≡ Status.Done →
+        Claims (I.left input.old) (F.held files.old) words.now (output_of answer).text command) }
+    ensures has_text { IfOk result AnswerHasText }
+    ensures end { IfOk result (λ answer. (output_of answer).status ≡ Status.Done → IsInputOf command None → IsAtEnd (I.left input.new)) }
+    ensures rejects { IfOk result (λ answer. (output_of answer).status ≡ Status.Rejected → IsCheck (Ok command)) }
+    ensures help { command ≡ Command.Help → IsOk result }
+    ensures built { (fault : Fault) → command_fault command ≡ Some fault → result ≡ Err fault }
+    ensures refused { IfErr result (IsRefused
+        (IsUnread (counts_of (I.faults input.old) (I.faults input.new) (F.faults files.old) (F.faults files.new)) words.now (Ok command))
+        (command_ending (I.left input.old) (F.held files.old) words.now command)) }
+    ensures of_words { IfErr result (λ fault. IsOfInputs fault ⊎ (command_fault command ≡ Some fault)) }
+    ensures later_input { I.faults input.old ≤ I.faults input.new }
+    ensures later_files { F.faults files.old ≤ F.faults files.new }
 {
-    let Some(command) = read_command(words) else {
-        return Err(Fault::NotBuilt);
-    };
-    match read_all(alloc, input, LONGEST) {
-        Ok(bytes) => run(alloc, command, &bytes),
-        Err(ReadErr::Failed) => Err(read_fault(alloc)),
-        Err(ReadErr::TooLong) => Err(Fault::TooLong),
-        Err(ReadErr::Memory) => Err(Fault::Memory),
+    match command {
+        Command::Solve(at) => ask(alloc, Question::Solve, words, at, input, files),
+        Command::Certify(at) => ask(alloc, Question::Certify, words, at, input, files),
+        Command::Demand(at) => ask(alloc, Question::Demand, words, at, input, files),
+        Command::Check(at, cert_at) => answer_check(alloc, words, at, cert_at, input, files),
+        Command::Simulate(_) => Err(Fault::NotBuilt),
+        Command::Trial(_) => Err(Fault::NotBuilt),
+        Command::Help => Ok(Answer::Help),
     }
 }
 
-// Tells standard error why the run is refused.
-fn refuse<E: Sink>(alloc: Global, err: &mut E, fault: Fault) -> Status
-    ensures { IsToldOf fault result (E.faults err.old) (E.faults err.new) (E.written err.old) (E.written err.new) }
+// Why words name no command.
+fn fault_of_words(wrong: WordErr) -> Fault
+    ensures { result ≡ word_fault wrong }
 {
-    match fault_text(alloc, &fault) {
+    match wrong {
+        WordErr::NoCommand => Fault::NoCommand,
+        WordErr::UnknownCommand => Fault::UnknownCommand,
+        WordErr::TooFew(word) => Fault::TooFew(word),
+        WordErr::TooMany(word) => Fault::TooMany(word),
+        WordErr::EmptyName(word) => Fault::EmptyName(word),
+        WordErr::NoOption(word) => Fault::NoOption(word),
+        WordErr::BadNumber(word) => Fault::BadNumber(word),
+        WordErr::TwoInputs(word) => Fault::TwoInputs(word),
+    }
+}
+
+// What is to be written for the words, before any of it is.
+fn perform<I: Source, F: Files>(
+    alloc: Global,
+    words: &[String],
+    input: &mut I,
+    files: &mut F,
+) -> Result<Answer, Fault>
+    ensures ok { IfOk result (λ answer. IfSome
+        (ending_of (I.left input.old) (F.held files.old) words.now) (λ end. end ≡ Ok (output_of answer))) }
+    ensures claims { IfOk result (λ answer. (command : Command) → command_of words.now ≡ Ok command → (output_of answer).status ≡ Status.Done →
+        Claims (I.left input.old) (F.held files.old) words.now (output_of answer).text command) }
+    ensures has_text { IfOk result AnswerHasText }
+    ensures end { IfOk result (λ answer. (output_of answer).status ≡ Status.Done → ReadsInput (command_of words.now) None → IsAtEnd (I.left input.new)) }
+    ensures rejects { IfOk result (λ answer. (output_of answer).status ≡ Status.Rejected → IsCheck (command_of words.now)) }
+    ensures help { command_of words.now ≡ Ok Command.Help → IsOk result }
+    ensures words { (fault : Fault) → words_fault words.now ≡ Some fault → result ≡ Err fault }
+    ensures refused { IfErr result (IsRefused
+        (IsUnread (counts_of (I.faults input.old) (I.faults input.new) (F.faults files.old) (F.faults files.new)) words.now (command_of words.now))
+        (ending_of (I.left input.old) (F.held files.old) words.now)) }
+    ensures of_words { IfErr result (λ fault. IsOfInputs fault ⊎ (words_fault words.now ≡ Some fault)) }
+    ensures later_input { I.faults input.old ≤ I.faults input.new }
+    ensures later_files { F.faults files.old ≤ F.faults files.new }
+{
+    match read_words(words) {
+        Ok(command) => answer(alloc, words, command, input, files),
+        Err(wrong) => Err(fault_of_words(wrong)),
+    }
+}
+
+// Writes a message to standard error, or the front of it.
+fn tell<E: Sink>(err: &mut E, message: &[u8])
+    ensures part { AppendsPrefix (E.written err.old) (E.written err.new) message.now }
+    ensures whole { Appends (E.written err.old) (E.written err.new) message.now ⊎ Rose (E.faults err.old) (E.faults err.new) }
+{
+    // A failed message changes neither the output nor the status.
+    let _ = write_all(err, message);
+}
+
+// Tells standard error why the run is refused.
+fn refuse<E: Sink>(alloc: Global, err: &mut E, fault: &Fault) -> Status
+    ensures told { IsToldOf fault.now result (E.faults err.old) (E.faults err.new) (E.written err.old) (E.written err.new) }
+    ensures write_fault { fault.now ≡ Fault.WriteFault → result ≡ Status.WriteFault }
+{
+    if let Fault::WriteFault = fault {
+        tell(err, CANNOT_WRITE);
+        return Status::WriteFault;
+    }
+    match fault_text(alloc, fault) {
         Ok(text) => {
-            // A failed message changes neither the output nor the status.
-            let _ = write_all(err, text.bytes());
-            status_for(&fault)
+            tell(err, text.bytes());
+            status_for(fault)
         }
         Err(Memory) => Status::Memory,
     }
 }
 
-/// Runs the command that the words name on what `input` holds, writes its text to `out`, and a message to `err` where
-/// it is refused. The words don't hold the program's name.
+/// Runs the command that the words name and writes its text to `out`, and a message to `err` where it is refused. The
+/// words don't hold the program's name. An input is standard input, where no name or `-` is given, or else a file.
 ///
-/// `solve` prints an optimal policy, of a newsvendor so far; `demand` prints the laws of demand of a newsvendor, a
-/// finite, an average-cost or a serial instance.
-pub fn stock<I: Source, O: Sink, E: Sink>(
+/// `solve` prints an optimal policy, of a newsvendor or a lot plan so far; `certify` its certificate; `check` checks a
+/// certificate against an instance, whoever wrote it; `demand` prints the laws of demand of a newsvendor, a finite, an
+/// average-cost or a serial instance; `help` prints what the commands are.
+pub fn stock<I: Source, F: Files, O: Sink, E: Sink>(
     alloc: Global,
     words: &[String],
     input: &mut I,
+    files: &mut F,
     out: &mut O,
     err: &mut E,
 ) -> Status
-    // Where the input tells its bytes, the status and the text are those of the outcome.
-    ensures outcome { IfSome (I.left input.old) (λ bytes. IsDecided result →
-        (result ≡ status_of_outcome (outcome_of words.now bytes))
-        × Appends (O.written out.old) (O.written out.new) (text_of (outcome_of words.now bytes))) }
+    // Where the inputs tell what they hold, the status and the text are those of the ending.
+    ensures outcome { IfSome (ending_of (I.left input.old) (F.held files.old) words.now) (λ end. IsDecided result →
+        (result ≡ status_of_outcome end) × Appends (O.written out.old) (O.written out.new) (text_of end)) }
     // A run that is cut short wrote a prefix of that text.
-    ensures part { IfSome (I.left input.old) (λ bytes.
-        AppendsPrefix (O.written out.old) (O.written out.new) (text_of (outcome_of words.now bytes))) }
+    ensures part { IfSome (ending_of (I.left input.old) (F.held files.old) words.now) (λ end.
+        AppendsPrefix (O.written out.old) (O.written out.new) (text_of end)) }
 
-    // Each status has its cause, whatever the input tells.
-    ensures words { result ≡ Status.Words → command_of words.now ≡ None }
-    ensures no_command { command_of words.now ≡ None → (result ≡ Status.Words) ⊎ (result ≡ Status.Memory) }
-    ensures read_fault { result ≡ Status.ReadFault → Rose (I.faults input.old) (I.faults input.new) }
+    // Each status has its cause, whatever the inputs tell.
+    ensures words { result ≡ Status.Words → IsSome (words_fault words.now) }
+    ensures no_command { IsSome (words_fault words.now) → (result ≡ Status.Words) ⊎ (result ≡ Status.Memory) }
+    ensures read_fault { result ≡ Status.ReadFault →
+        Rose (I.faults input.old) (I.faults input.new) ⊎ Rose (F.faults files.old) (F.faults files.new) }
     ensures write_fault { result ≡ Status.WriteFault → Rose (O.faults out.old) (O.faults out.new) }
-    ensures writing { result ≡ Status.WriteFault → IfSome (I.left input.old) (λ bytes. IsOk (outcome_of words.now bytes)) }
+    ensures writing { result ≡ Status.WriteFault → IfSome (ending_of (I.left input.old) (F.held files.old) words.now) IsOk }
+    ensures rejects { result ≡ Status.Rejected → IsCheck (command_of words.now) }
     ensures given { IsGiven result }
     ensures nothing { WritesNothing result → Keeps (O.written out.old) (O.written out.new) }
 
-    // An accepted input gives its text, where no object failed and memory is there.
-    ensures complete { IfSome (I.left input.old) (λ bytes. IsOk (outcome_of words.now bytes)
-        → ¬ Rose (I.faults input.old) (I.faults input.new) → ¬ Rose (O.faults out.old) (O.faults out.new)
-        → (result ≡ Status.Done) ⊎ (result ≡ Status.Memory)) }
+    // What ends with a text ends so, where no object failed and memory is there; `help` takes none.
+    ensures complete { IfSome (ending_of (I.left input.old) (F.held files.old) words.now) (λ end. IsOk end
+        → ¬ Rose (I.faults input.old) (I.faults input.new) → ¬ Rose (F.faults files.old) (F.faults files.new)
+        → ¬ Rose (O.faults out.old) (O.faults out.new)
+        → (result ≡ status_of_outcome end) ⊎ (result ≡ Status.Memory)) }
+    ensures help { command_of words.now ≡ Ok Command.Help → (result ≡ Status.Done) ⊎ (result ≡ Status.WriteFault) }
 
-    // Done after `solve` names the first level of least cost, and the input was read to its end.
-    ensures level { result ≡ Status.Done → command_of words.now ≡ Some Command.Solve
-        → IfSome (I.left input.old) (λ bytes.
-        (text : List ℕ) × IsReport bytes text × Appends (O.written out.old) (O.written out.new) text) }
-    ensures end { result ≡ Status.Done → IsAtEnd (I.left input.new) }
+    // Done after `solve`, `certify` and `check` names a policy than which none costs less, and its cost.
+    ensures claims { (command : Command) → command_of words.now ≡ Ok command → result ≡ Status.Done → (text : List ℕ)
+        × Claims (I.left input.old) (F.held files.old) words.now text command × Appends (O.written out.old) (O.written out.new) text }
+    // Done means that standard input, where it is read, was read to its end.
+    ensures end { result ≡ Status.Done → ReadsInput (command_of words.now) None → IsAtEnd (I.left input.new) }
 
     // What stands on `err`.
-    ensures message { result ≢ Status.Done → IsTold (I.left input.old) words.now result
+    ensures message { HasMessage result → IsTold
+        (counts_of (I.faults input.old) (I.faults input.new) (F.faults files.old) (F.faults files.new))
+        (ending_of (I.left input.old) (F.held files.old) words.now) words.now result
         (E.faults err.old) (E.faults err.new) (E.written err.old) (E.written err.new) }
-    ensures silent { result ≡ Status.Done → Keeps (E.written err.old) (E.written err.new) }
+    ensures silent { (HasMessage result → ⊥) → Keeps (E.written err.old) (E.written err.new) }
 {
-    match answer(alloc, words, input) {
-        Ok(text) => match write_all(out, text.bytes()) {
-            Ok(()) => Status::Done,
-            Err(_) => refuse(alloc, err, Fault::WriteFault),
+    match perform(alloc, words, input, files) {
+        Ok(answer) => match write_answer(&answer, out) {
+            Ok(()) => status_with(&answer),
+            Err(_) => refuse(alloc, err, &Fault::WriteFault),
         },
-        Err(fault) => refuse(alloc, err, fault),
+        Err(fault) => refuse(alloc, err, &fault),
     }
 }

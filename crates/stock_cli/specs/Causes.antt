@@ -1,0 +1,157 @@
+-- The causes of refusals, and what standard error is told.
+use Rattle.std.specs.Prelude.{◌≡◌, ◌⊎◌, ℕ, ◌<◌, List, length, IfSome, Option, Some, None, Result, Ok, Err, String}
+use Rattle.std.specs.declared.alloc.Global.{Global}
+use Rattle.std.specs.Io.KnownBytes.{Appends}
+use Rattle.decision_model.specs.declared.instance.Instance.{Instance}
+use Rattle.instance_json.specs.Reads.{reads}
+use Rattle.report_text.specs.Messages.{fault_message}
+use Rattle.report_text.specs.declared.faults.Fault.{Fault}
+use Rattle.report_text.specs.declared.faults.Fault.TheVariants as fault
+use Rattle.stock_edge.specs.Causes.{Rose, AppendsPrefix}
+use Rattle.stock_cli.specs.Inputs.{Content, input_name}
+use Rattle.stock_cli.specs.Outcome.{Ending, instance_ending, question_outcome}
+use Rattle.stock_cli.specs.Status.{IsDecided, status_of, word_fault}
+use Rattle.stock_cli.specs.Words.{command_of}
+use Rattle.stock_cli.specs.declared.answers.Question.{Question}
+use Rattle.stock_cli.specs.declared.check.Unchecked.{Unchecked}
+use Rattle.stock_cli.specs.declared.check.Unchecked.TheVariants as unchecked
+use Rattle.stock_cli.specs.declared.words.Command.{Command}
+use Rattle.stock_cli.specs.declared.words.Command.TheVariants as command
+use Rattle.stock_cli.specs.declared.words.WordErr.{WordErr}
+use Rattle.stock_cli.specs.declared.status.Status.{Status}
+use Rattle.stock_cli.specs.declared.status.Status.TheVariants as status
+
+-- ---- faults of the words
+abbrev pub command_fault : Command → Option Fault
+command_fault (command.Simulate input) = Some fault.NotBuilt
+command_fault (command.Trial number) = Some fault.NotBuilt
+command_fault (command.Check None None) = Some (fault.TwoInputs 3)
+command_fault _ = None
+
+abbrev pub read_fault : Result Command WordErr → Option Fault
+read_fault (Ok command) = command_fault command
+read_fault (Err e) = Some (word_fault e)
+
+-- the fault of a run's words, if they have one
+abbrev pub words_fault : List (String Global) → Option Fault
+words_fault words = read_fault (command_of words)
+
+-- ---- the inputs that a command reads
+abbrev pub IsInputOf : Command → Option ℕ → Type 0
+IsInputOf (command.Solve input) at = at ≡ input
+IsInputOf (command.Certify input) at = at ≡ input
+IsInputOf (command.Demand input) at = at ≡ input
+IsInputOf (command.Check instance cert) at = (at ≡ instance) ⊎ (at ≡ cert)
+IsInputOf _ at = ⊥
+
+-- the command checks a certificate
+abbrev pub IsCheck : Result Command WordErr → Type 0
+IsCheck (Ok (command.Check instance cert)) = Unit {0}
+IsCheck _ = ⊥
+
+abbrev pub ReadsInput : Result Command WordErr → Option ℕ → Type 0
+ReadsInput (Ok command) at = IsInputOf command at
+ReadsInput (Err e) at = ⊥
+
+-- the counts of faults of standard input and of the files, before a call and after it
+pub record Counts : Type 0 where
+  pub input_before : ℕ
+  pub input_now : ℕ
+  pub files_before : ℕ
+  pub files_now : ℕ
+
+abbrev pub counts_of : ℕ → ℕ → ℕ → ℕ → Counts
+counts_of input_before input_now files_before files_now =
+    record { input_before = input_before; input_now = input_now; files_before = files_before; files_now = files_now }
+
+-- the count of the object that has an input rose
+abbrev pub RoseAt : Counts → Option ℕ → Type 0
+RoseAt counts None = Rose counts.input_before counts.input_now
+RoseAt counts (Some place) = Rose counts.files_before counts.files_now
+
+-- the input has this name, and its object failed
+abbrev pub FailedAt : Counts → List (String Global) → Option ℕ → List ℕ → Type 0
+FailedAt counts words input name = (name ≡ input_name words input) × RoseAt counts input
+
+-- the same of one of two inputs
+abbrev pub FailedAtOneOf : Counts → List (String Global) → Option ℕ → Option ℕ → List ℕ → Type 0
+FailedAtOneOf counts words first second name = FailedAt counts words first name ⊎ FailedAt counts words second name
+
+-- an input that the command reads has this name, and its object failed
+pub record IsUnread (counts : Counts) (words : List (String Global)) (asked : Result Command WordErr) (name : List ℕ) : Type 0 where
+  pub input : Option ℕ
+  pub read : ReadsInput asked input
+  pub failed : FailedAt counts words input name
+
+-- ---- refusals, by the inputs of a name that may not have been read
+-- the content is longer than an instance may be
+abbrev pub IsTooLong : Result (List ℕ) Fault → Type 0
+IsTooLong content = (bytes : List ℕ) × (content ≡ Ok bytes) × (1048576 < length bytes)
+
+-- why an input wasn't read: its object failed, memory was refused, it is too long, or there is no such file
+abbrev pub NotRead : (List ℕ → Type 0) → Content → Fault → Type 0
+NotRead unread content (fault.ReadFault name) = unread name
+NotRead unread content fault.Memory = Unit {0}
+NotRead unread content fault.TooLong = IfSome content IsTooLong
+NotRead unread content (fault.MissingFile name) = IfSome content (λ found. found ≡ Err (fault.MissingFile name))
+NotRead unread content _ = ⊥
+
+-- why there is no verdict on a certificate of this name: there is no such file, its object failed, or it is too long to be counted
+abbrev pub NotChecked : Type 0 → List ℕ → Content → Unchecked → Type 0
+NotChecked rose name content unchecked.Missing = IfSome content (λ found. found ≡ Err (fault.MissingFile name))
+NotChecked rose name content unchecked.Failed = rose
+NotChecked rose name content unchecked.Endless = Unit {0}
+
+-- why bytes give no instance: they say none, or memory was refused
+abbrev pub IsNoInstance : List ℕ → Fault → Type 0
+IsNoInstance bytes (fault.Instance f) = reads bytes ≡ Err f
+IsNoInstance bytes fault.Memory = Unit {0}
+IsNoInstance bytes _ = ⊥
+
+-- why an input gives no instance: its object failed, memory was refused, or it is how the run ends, whatever is asked of the instance
+abbrev pub GivesNone : (List ℕ → Type 0) → Content → Fault → Type 0
+GivesNone unread content (fault.ReadFault name) = unread name
+GivesNone unread content fault.Memory = Unit {0}
+GivesNone unread content fault.WriteFault = ⊥
+GivesNone unread content f = (answer : Instance → Ending) → IfSome (instance_ending answer content) (λ end. end ≡ Err f)
+
+-- why a question on an instance has no answer: memory was refused, or it has none for this kind
+abbrev pub HasNoAnswer : Question → Instance → Fault → Type 0
+HasNoAnswer question item (fault.Instance f) = question_outcome question item ≡ Err (fault.Instance f)
+HasNoAnswer question item (fault.NotThisCommand kind) = question_outcome question item ≡ Err (fault.NotThisCommand kind)
+HasNoAnswer question item fault.Memory = Unit {0}
+HasNoAnswer question item _ = ⊥
+
+-- a refusal before anything is written has its cause: an input failed, memory was refused, or it is how the run ends
+abbrev pub IsRefused : (List ℕ → Type 0) → Ending → Fault → Type 0
+IsRefused unread ending (fault.ReadFault name) = unread name
+IsRefused unread ending fault.Memory = Unit {0}
+IsRefused unread ending fault.WriteFault = ⊥
+IsRefused unread ending f = IfSome ending (λ end. end ≡ Err f)
+
+-- what a refusal puts on standard error: the message of its fault, or of want of memory where there is none for that message; it is whole where no fault came and memory wasn't wanting
+pub record IsToldOf (refusal : Fault) (given : Status) (before now : ℕ) (old new : Option (List ℕ)) : Type 0 where
+  pub told : Fault
+  pub of : (told ≡ refusal) ⊎ (told ≡ fault.Memory)
+  pub status_is : given ≡ status_of told
+  pub part : AppendsPrefix old new (fault_message told)
+  pub whole : (given ≡ status.Memory) ⊎ (Appends old new (fault_message told) ⊎ Rose before now)
+
+-- the fault that a run's message tells is the cause of its status: where that is decided by the words and the inputs, it is how the run ends; a read fault is of an input whose object failed
+abbrev pub IsCause : Counts → Ending → List (String Global) → Status → Fault → Type 0
+IsCause counts ending words given (fault.ReadFault name) = IsUnread counts words (command_of words) name
+IsCause counts ending words given f = IsDecided given → IfSome ending (λ end. end ≡ Err f)
+
+-- what a run that isn't done puts on standard error: the message of a fault that has the run's status and is its cause; it is whole where no fault came and memory wasn't wanting
+pub record IsTold (counts : Counts) (ending : Ending) (words : List (String Global)) (given : Status) (before now : ℕ) (old new : Option (List ℕ)) : Type 0 where
+  pub refusal : Fault
+  pub status_is : given ≡ status_of refusal
+  pub cause : IsCause counts ending words given refusal
+  pub part : AppendsPrefix old new (fault_message refusal)
+  pub whole : (given ≡ status.Memory) ⊎ (Appends old new (fault_message refusal) ⊎ Rose before now)
+
+-- a run that ends so has a message
+abbrev pub HasMessage : Status → Type 0
+HasMessage status.Done = ⊥
+HasMessage status.Rejected = ⊥
+HasMessage _ = Unit {0}

@@ -1,0 +1,48 @@
+-- What the inputs of a command hold. An input is standard input, or the file that the word at a place names, from 0.
+use Rattle.std.specs.Prelude.{◌≡◌, ℕ, ◌≤◌, List, [], length, map, codes, slice_index_or, Option, Some, None, Result, Ok, Err, String, string_bytes}
+use Rattle.std.specs.declared.alloc.Global.{Global}
+use Rattle.decision_model.specs.declared.instance.Instance.{Instance}
+use Rattle.instance_json.specs.Reads.{reads}
+use Rattle.report_text.specs.declared.faults.Fault.{Fault}
+use Rattle.report_text.specs.declared.faults.Fault.TheVariants as fault
+use Rattle.stock_edge.specs.HeldFiles.{Held}
+
+-- the word at a place
+abbrev pub word_at : List (String Global) → ℕ → List ℕ
+word_at words place = slice_index_or (map string_bytes words) place []
+
+-- the name of an input, as messages tell it
+abbrev pub input_name : List (String Global) → Option ℕ → List ℕ
+input_name words None = codes "-"
+input_name words (Some place) = word_at words place
+
+-- the bytes of a file, or that there is none
+abbrev pub file_content : List ℕ → Option (List ℕ) → Result (List ℕ) Fault
+file_content name None = Err (fault.MissingFile name)
+file_content name (Some bytes) = Ok bytes
+
+-- what an input holds, where the object that has it tells that: its bytes, or that there is no such file
+abbrev pub Content : Type 0
+Content = Option (Result (List ℕ) Fault)
+
+-- what standard input holds
+abbrev pub standard_content : Option (List ℕ) → Content
+standard_content None = None
+standard_content (Some bytes) = Some (Ok bytes)
+
+-- what the file of a name holds
+abbrev pub named_content : Option Held → List ℕ → Content
+named_content None name = None
+named_content (Some files) name = Some (file_content name (files name))
+
+-- what an input holds
+abbrev pub content_of : Option (List ℕ) → Option Held → List (String Global) → Option ℕ → Content
+content_of left held words None = standard_content left
+content_of left held words (Some place) = named_content held (word_at words place)
+
+-- the content is that of this instance, whose bytes are not too many
+pub record SaysInstance (content : Result (List ℕ) Fault) (item : Instance) : Type 0 where
+  pub bytes : List ℕ
+  pub told : content ≡ Ok bytes
+  pub fits : length bytes ≤ 1048576
+  pub said : reads bytes ≡ Ok item
