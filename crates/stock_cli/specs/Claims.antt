@@ -16,8 +16,8 @@ use Rattle.stock_cli.specs.declared.words.Command.{Command}
 use Rattle.stock_cli.specs.declared.words.Command.TheVariants as command
 use Rattle.stock_cli.specs.declared.words.WordErr.{WordErr}
 
--- an instance, and a certificate that names a policy than which none costs less, and its cost
-pub record IsCertified (item : Instance) (text_is : Cert → Type 0) : Type 0 where
+-- a certificate of the instance, of which this holds, names a policy than which none costs less, and its cost
+pub record NamesLeastPolicy (item : Instance) (text_is : Cert → Type 0) : Type 0 where
   pub cert : Cert
   pub has_text : HasText cert
   pub certifies : Certifies item cert
@@ -33,11 +33,11 @@ pub record OfInstance (content : Result (List ℕ) Fault) (claim : Instance → 
 
 -- the text reports a policy of the instance than which none costs less, and its cost
 abbrev pub IsReport : List ℕ → Instance → Type 0
-IsReport text item = IsCertified item (λ c. text ≡ report_of item c)
+IsReport text item = NamesLeastPolicy item (λ c. text ≡ report_of item c)
 
 -- the text is a certificate of such a policy
 abbrev pub IsCertificate : List ℕ → Instance → Type 0
-IsCertificate text item = IsCertified item (λ c. text ≡ cert_text c)
+IsCertificate text item = NamesLeastPolicy item (λ c. text ≡ cert_text c)
 
 -- what the answer to a question claims
 abbrev pub QuestionClaims : Question → List ℕ → Instance → Type 0
@@ -47,7 +47,7 @@ QuestionClaims question.Demand text item = Unit {0}
 
 -- the content is a certificate of such a policy
 abbrev pub HoldsCertificate : Content → Instance → Type 0
-HoldsCertificate content item = IfSome content (λ told. IsCertified item (λ c. told ≡ Ok (cert_text c)))
+HoldsCertificate content item = IfSome content (λ told. NamesLeastPolicy item (λ c. told ≡ Ok (cert_text c)))
 
 -- what a check that accepts claims, where its inputs are told
 abbrev pub CompareClaims : Option (List ℕ) → Option Held → List (String Global) → Option ℕ → Option ℕ → Type 0
