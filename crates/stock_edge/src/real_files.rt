@@ -4,17 +4,34 @@ ghost use Rattle.std.specs.Prelude.{◌≡◌, IfOk, IsErrOf};
 ghost use Rattle.std.specs.Io.{ReadsAtMost};
 ghost use Rattle.stock_edge.specs.HeldFiles.{file_faults_after};
 
+use crate::real::read_uninterrupted;
 use crate::{FileFault, Files};
+use arrayvec::ArrayString;
 use std::fs::File;
-use std::io::ErrorKind;
+use std::io::{ErrorKind, Read, Seek, SeekFrom};
 use std::marker::Model;
-use std::os::unix::fs::FileExt;
 use std::rt;
 
+/// The longest name of a file that the system opens, in bytes.
+const LONGEST_NAME: usize = 4096;
+
+/// A file that is kept open, and the offset of its next byte.
+#[derive(Drop)]
+struct OpenedFile<F> {
+    name: ArrayString<LONGEST_NAME>,
+    file: F,
+    offset: u64,
+}
+
 /// The files of the system, with a count of its faults. They tell no content.
+///
+/// The file that was read last is kept open, and a read of the same name reads on there: whatever
+/// the name stands for by then, the bytes are those of one file. Where a read goes on behind the
+/// last one, nothing is sought, so a pipe can be read too.
 #[derive(Drop)]
 pub struct RealFiles<R> {
     system: R,
+    opened: Option<OpenedFile<File>>,
     faults: u64,
 }
 
@@ -31,7 +48,34 @@ impl<R: rt::Files<File = File>> RealFiles<R> {
     pub fn new(system: R) -> Self
         ensures { result ≡ 0 }
     {
-        RealFiles { system, faults: 0 }
+        RealFiles {
+            system,
+            opened: None,
+            faults: 0,
+        }
+    }
+
+    // One read of the file of this name, which is opened unless it is the one that is kept.
+    fn read_kept(&mut self, name: &str, place: u64, buf: &mut [u8]) -> Result<usize, FileFault>
+        ensures bound { ReadsAtMost result buf.new }
+        ensures same { self.new ≡ self.old }
+    {
+        if !self.keeps(name) {
+            self.opened = None;
+            self.opened = Some(open(&self.system, name)?);
+        }
+        match &mut self.opened {
+            Some(opened) => opened.read_from(place, buf),
+            None => Err(FileFault::Failed),
+        }
+    }
+
+    // Whether the file that is kept open has this name.
+    fn keeps(&self, name: &str) -> bool {
+        match &self.opened {
+            Some(opened) => opened.name.as_str() == name,
+            None => false,
+        }
     }
 }
 
@@ -50,7 +94,7 @@ impl<R: rt::Files<File = File>> Files for RealFiles<R> {
         ensures cause { HasFileCause self.old self.new result }
         ensures counted { self.new ≡ file_faults_after self.old result }
     {
-        let result = read_opened(&self.system, name, place, buf);
+        let result = self.read_kept(name, place, buf);
         if result == Err(FileFault::Failed) {
             self.faults = self.faults.saturating_add(1);
         }
@@ -58,36 +102,51 @@ impl<R: rt::Files<File = File>> Files for RealFiles<R> {
     }
 }
 
-// Opens the file of this name, and reads from `place` on.
-fn read_opened<R: rt::Files<File = File>>(
+// Opens the file of this name. A name that is too long to be kept is longer than the system takes.
+fn open<R: rt::Files<File = File>>(
     system: &R,
     name: &str,
-    place: u64,
-    buf: &mut [u8],
-) -> Result<usize, FileFault>
-    ensures bound { ReadsAtMost result buf.new }
-{
+) -> Result<OpenedFile<File>, FileFault> {
+    let mut kept_name = ArrayString::new();
+    if kept_name.try_push_str(name).is_err() {
+        return Err(FileFault::Failed);
+    }
     match File::open(system, name) {
-        Ok(file) => read_uninterrupted(&file, place, buf),
+        Ok(file) => Ok(OpenedFile {
+            name: kept_name,
+            file,
+            offset: 0,
+        }),
         Err(error) if error.kind() == ErrorKind::NotFound => Err(FileFault::Missing),
         Err(_) => Err(FileFault::Failed),
     }
 }
 
-// One read at `place`, tried again where the system was interrupted.
-pub(crate) fn read_uninterrupted<E: FileExt>(
-    file: &E,
-    place: u64,
-    buf: &mut [u8],
-) -> Result<usize, FileFault>
-    ensures bound { ReadsAtMost result buf.new }
-{
-    for _ in 0..u64::MAX {
-        match file.read_at(buf, place) {
-            Ok(count) => return Ok(count),
-            Err(error) if error.kind() == ErrorKind::Interrupted => {}
-            Err(_) => return Err(FileFault::Failed),
+impl<F: Read + Seek> OpenedFile<F> {
+    // One read from `place` on, which is sought only where it isn't the next byte's.
+    fn read_from(&mut self, place: u64, buf: &mut [u8]) -> Result<usize, FileFault>
+        ensures bound { ReadsAtMost result buf.new }
+    {
+        if place != self.offset {
+            self.seek(place)?;
+        }
+        match read_uninterrupted(&mut self.file, buf) {
+            Ok(count) => {
+                self.offset = place.saturating_add(count as u64);
+                Ok(count)
+            }
+            Err(_) => Err(FileFault::Failed),
         }
     }
-    Err(FileFault::Failed)
+
+    // Goes to the byte at `place`.
+    fn seek(&mut self, place: u64) -> Result<(), FileFault> {
+        match self.file.seek(SeekFrom::Start(place)) {
+            Ok(_) => {
+                self.offset = place;
+                Ok(())
+            }
+            Err(_) => Err(FileFault::Failed),
+        }
+    }
 }

@@ -2,12 +2,9 @@
 ghost use Rattle.std.specs.Prelude.{None};
 
 use super::*;
-use crate::real_files::read_uninterrupted;
 use std::alloc::Global;
-use std::cell::Cell;
 use std::fs;
 use std::io::{self, ErrorKind, Read, Write};
-use std::os::unix::fs::FileExt;
 use std::test::Fail;
 
 const LENGTH: usize = 10_000;
@@ -131,27 +128,6 @@ impl Write for Unsteady {
     }
 }
 
-// An open file at its end, whose first reads are interrupted.
-#[derive(Drop)]
-struct Halting {
-    interrupted: Cell<u8>,
-}
-
-impl FileExt for Halting {
-    fn read_at(&self, _buf: &mut [u8], _offset: u64) -> io::Result<usize> {
-        let left = self.interrupted.get();
-        if left == 0 {
-            return Ok(0);
-        }
-        self.interrupted.set(left - 1);
-        Err(io::Error::from(ErrorKind::Interrupted))
-    }
-
-    fn write_at(&self, _buf: &[u8], _offset: u64) -> io::Result<usize> {
-        Ok(0)
-    }
-}
-
 #[test]
 fn tries_again_where_the_system_was_interrupted(rt: HostRuntime) -> Result<(), Fail> {
     let mut source = RealSource::new(Unsteady {
@@ -162,10 +138,6 @@ fn tries_again_where_the_system_was_interrupted(rt: HostRuntime) -> Result<(), F
     for want in [Ok(1), Ok(1), Err(Failed)] {
         assert_eq!(rt; source.read(&mut buf), want);
     }
-    let file = Halting {
-        interrupted: Cell::new(3),
-    };
-    assert_eq!(rt; read_uninterrupted(&file, 0, &mut buf), Ok(0));
     let mut sink = RealSink::new(Unsteady {
         interrupted: 3,
         steady: 2,
@@ -286,5 +258,25 @@ fn reads_files_of_the_system(rt: HostRuntime) -> Result<(), Fail> {
         assert_eq!(rt; answer, want, "{name} at {place}");
     }
     fs::remove_file(&rt, "ten_thousand_bytes")?;
+    Ok(())
+}
+
+#[test]
+fn reads_on_in_the_file_that_is_open(rt: HostRuntime) -> Result<(), Fail> {
+    fs::write(&rt, "first", b"abcdefgh".as_slice())?;
+    fs::write(&rt, "second", b"ABCDEFGH".as_slice())?;
+    let mut files = RealFiles::new(&rt);
+    let mut buf = [0; 3];
+    assert_eq!(rt; files.read_at("first", 0, &mut buf), Ok(3));
+    // From here on the name stands for another file.
+    fs::rename(&rt, "second", "first")?;
+    for (place, want) in [(3, b"def"), (4, b"efg"), (0, b"abc")] {
+        assert_eq!(rt; files.read_at("first", place, &mut buf), Ok(3), "at {place}");
+        assert_eq!(rt; buf.as_slice(), want.as_slice(), "at {place}");
+    }
+    assert_eq!(rt; files.read_at("none", 0, &mut buf), Err(FileFault::Missing));
+    assert_eq!(rt; files.read_at("first", 0, &mut buf), Ok(3));
+    assert_eq!(rt; buf.as_slice(), b"ABC".as_slice());
+    fs::remove_file(&rt, "first")?;
     Ok(())
 }
