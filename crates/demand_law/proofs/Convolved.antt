@@ -58,10 +58,10 @@ module _ (old now : List ℕ) (at factor : ℕ) (law : List ℕ) (n : ℕ) (with
 abbrev pub SumsSoFar : List ℕ → List ℕ → ℕ → List ℕ → Type 0
 SumsSoFar first second n sums = (e : ℕ) → pos (get_or sums e 0) ≡ weighted (take n first) (λ d. weight_beyond d second e)
 
-weight_beyond_nonnegative : (k : ℕ) (law : List ℕ) (e : ℕ) → pos 0 ≤ℤ weight_beyond k law e
+pub weight_beyond_nonnegative : (k : ℕ) (law : List ℕ) (e : ℕ) → pos 0 ≤ℤ weight_beyond k law e
 weight_beyond_nonnegative k law e = weighted_nonnegative law (λ d. one_at (k + d) e) (λ d lt. one_at_nonnegative (k + d) e)
 
-weight_beyond_most : (k : ℕ) (law : List ℕ) (e : ℕ) → weight_beyond k law e ≤ℤ pos (sum law)
+pub weight_beyond_most : (k : ℕ) (law : List ℕ) (e : ℕ) → weight_beyond k law e ≤ℤ pos (sum law)
 weight_beyond_most k law e =
     subst (λ (z : ℤ). weight_beyond k law e ≤ℤ z) (Z.mul_one (pos (sum law))) (weighted_most law (λ d. one_at (k + d) e) (pos 1) (λ d lt. one_at_most (k + d) e))
 

@@ -1,5 +1,7 @@
 pub mod PointsPlaced
 pub mod Convolved
+pub mod Squares
+pub mod CopiedLaws
 pub mod Leads
 pub mod BinomialWeights
 pub mod FewPoints

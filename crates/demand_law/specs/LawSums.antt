@@ -12,7 +12,7 @@ use Rattle.demand_law.specs.Law.{weighted, IsLaw, greatest_of}
 use Rattle.demand_law.specs.Sequences.{over, laws_from, totals_of, one_at, weight_of_sum, greatest_sum, IsSumOf, law_of_sum}
 use Rattle.demand_law.specs.Integers as Z
 use Rattle.demand_law.specs.Integers.{weight_mono}
-use Rattle.demand_law.specs.WeightedSums.{sum-cons, weighted-ext, weighted-zero, weighted-const, weighted_term}
+use Rattle.demand_law.specs.WeightedSums.{sum-cons, weighted-ext, weighted-zero, weighted-const, weighted-swap, weighted_term}
 use Rattle.demand_law.specs.SequenceSums.{sum_sequence, over-ext, over-zero, over-scale_right, over-const, over-weighted, over-append, over_nonnegative, over_from-front, greatest_sum-append}
 
 -- ---- tests for equality, as numbers
@@ -152,6 +152,19 @@ IsSumOf-append law first second front back is_first is_second is = record {
 -- one law more, at the end
 pub IsSumOf-last : (law before last : List ℕ) (laws : List (List ℕ)) → IsSumOf before laws → 0 < length last → IsSumOf law (before ∷ last ∷ []) → IsSumOf law (laws ++ last ∷ [])
 IsSumOf-last law before last laws is_before some is = IsSumOf-append law before last laws (last ∷ []) is_before (IsSumOf-one last some) is
+
+-- the law of a sum of two demands doesn't mind which of them comes first
+pub IsSumOf-swap : (law first second : List ℕ) → IsSumOf law (first ∷ second ∷ []) → IsSumOf law (second ∷ first ∷ [])
+IsSumOf-swap law first second is = record {
+  weights = λ e. is.weights e ∙ weight_of_sum-pair first second e
+      ∙ weighted-swap first second (λ i j. one_at (i + j) e)
+      ∙ weighted-ext second _ _ (λ j. weighted-ext first _ _ (λ i. ap (λ k. one_at k e) (turned i j)))
+      ∙ sym (weight_of_sum-pair second first e);
+  width = omega (arith, is.width);
+}
+  where
+    turned : (i j : ℕ) → i + j ≡ j + i
+    turned i j = omega arith
 
 -- one law more, at the front
 pub IsSumOf-first : (law first after : List ℕ) (laws : List (List ℕ)) → 0 < length first → IsSumOf after laws → IsSumOf law (first ∷ after ∷ []) → IsSumOf law (first ∷ laws)

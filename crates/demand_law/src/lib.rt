@@ -1,6 +1,7 @@
 //! Laws of demand: how likely each demand is, by whole weights, and the laws of sums of demands.
 #![tactic(auto)]
 
+mod copies;
 mod law;
 mod named;
 mod points;

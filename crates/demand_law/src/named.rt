@@ -83,6 +83,9 @@ fn multiplied(alloc: Global, weights: &[u128], factor: u128) -> Result<Vec<u128>
     requires { sum weights.now * factor < 2 ^ 128 }
     ensures { IfOk result (λ products. products.items ≡ map (λ w. w * factor) weights.now) }
 {
+    if factor == 1 {
+        return weights.to_vec(alloc);
+    }
     let mut products = Vec::with_capacity(alloc, weights.len())?;
     for weight in weights {
         products.push(weight * factor)?;

@@ -3,6 +3,7 @@ ghost use Rattle.std.specs.Prelude.{◌≡◌, ℕ, pos, ◌+ℤ◌, ◌*ℤ◌,
 ghost use Rattle.demand_law.specs.Law.{IsLaw, greatest_of};
 ghost use Rattle.demand_law.specs.Sequences.{weight_beyond, law_at, laws_at, Serves, totals_of, greatest_in, greatest_sum, IsSumOf};
 
+use crate::copies::sum_copies;
 use crate::law::Law;
 use std::alloc::{AllocError, Global};
 use thiserror::Error;
@@ -43,7 +44,7 @@ fn product_fits(a: u128, b: u128) -> bool
 
 // Adds the weights of a law, each of them `factor` times, from a place on.
 #[tactic(auto, using(crate::proofs::Convolved::adds_nothing))]
-fn add_scaled(sums: &mut [u128], at: usize, factor: u128, law: &[u128])
+pub(crate) fn add_scaled(sums: &mut [u128], at: usize, factor: u128, law: &[u128])
     requires room { at + length law.now ≤ length sums.old }
     requires fits { (e : ℕ) → (pos (slice_index sums.old e) +ℤ pos factor *ℤ weight_beyond at law.now e) ≤ℤ pos (2 ^ 120) }
     ensures { (e : ℕ) → pos (slice_index sums.new e) ≡ pos (slice_index sums.old e) +ℤ pos factor *ℤ weight_beyond at law.now e }
@@ -136,24 +137,26 @@ fn totals_fit(laws: &[Law], from: usize, count: usize) -> bool
 }
 
 // Puts the law of the sum with one law more in place of the first `len` weights, and says how many it has.
-fn add_law(sums: &mut [u128], len: usize, law: &[u128], next: &mut [u128]) -> usize
+pub(crate) fn add_law(sums: &mut [u128], len: usize, law: &[u128], next: &mut [u128]) -> usize
     requires sums_some { 0 < len }
     requires law_some { 0 < length law.now }
     requires room { len + length law.now ≤ length sums.old + 1 }
     requires room_to_work { length sums.old ≤ length next.old }
     requires fits { sum (take len sums.old) * sum law.now ≤ 2 ^ 120 }
     ensures width { result + 1 ≡ len + length law.now }
-    ensures is_sum { IsSumOf (take result sums.new) (take len sums.old ∷ law.now ∷ []) }
+    ensures is_sum { IsSumOf (take result sums.new) (law.now ∷ take len sums.old ∷ []) }
+    ensures same { length sums.new ≡ length sums.old }
+    ensures same_next { length next.new ≡ length next.old }
 {
     let end = len + law.len() - 1;
-    let next = &mut next[..end];
-    convolve_into(&sums[..len], law, next);
-    sums[..end].copy_from_slice(next);
+    let sum = &mut next[..end];
+    convolve_into(law, &sums[..len], sum);
+    sums[..end].copy_from_slice(sum);
     end
 }
 
-// Writes the weights of the sum of the laws of some places. `next` is room to work in.
-fn sum_into(laws: &[Law], from: usize, count: usize, sums: &mut [u128], next: &mut [u128])
+// Writes the weights of the sum of the laws of some places, one after another. `next` is room to work in.
+fn sum_each(laws: &[Law], from: usize, count: usize, sums: &mut [u128], next: &mut [u128])
     requires some { 1 ≤ count }
     requires serves { Serves laws.now from count }
     requires are_laws { All IsLaw (laws_at laws.now from count) }
@@ -171,10 +174,29 @@ fn sum_into(laws: &[Law], from: usize, count: usize, sums: &mut [u128], next: &m
     }
 }
 
+// Writes the weights of the sum of the laws of some places. `next` is room to work in.
+fn sum_into(laws: &[Law], from: usize, count: usize, sums: &mut [u128], next: &mut [u128])
+    requires some { 1 ≤ count }
+    requires serves { Serves laws.now from count }
+    requires are_laws { All IsLaw (laws_at laws.now from count) }
+    requires fits { totals_of (laws_at laws.now from count) ≤ 2 ^ 120 }
+    requires width { length sums.old ≡ greatest_sum (laws_at laws.now from count) + 1 }
+    requires room_to_work { length sums.old ≤ length next.old }
+    ensures { IsSumOf sums.new (laws_at laws.now from count) }
+{
+    match laws {
+        [law] => {
+            sum_copies(law.weights(), count, sums, next);
+        }
+        _ => sum_each(laws, from, count, sums, next),
+    }
+}
+
 /// The law of the sum of independent demands, one for each of `count` places from `from` on. A list of one law has that
 /// law at every place. `Width` where the product of the sums of weights passes 2^120.
 ///
-/// The laws are convolved one after another, with room for two laws of the sum.
+/// The laws are convolved one after another, and where one law serves every place by doubling, with room for two laws
+/// of the sum.
 pub fn lead_sum(alloc: Global, laws: &[Law], from: usize, count: usize) -> Result<Law, SumErr>
     requires some { 1 ≤ count }
     requires serves { Serves laws.now from count }

@@ -103,10 +103,7 @@ impl<R: rt::Files<File = File>> Files for RealFiles<R> {
 }
 
 // Opens the file of this name. A name that is too long to be kept is longer than the system takes.
-fn open<R: rt::Files<File = File>>(
-    system: &R,
-    name: &str,
-) -> Result<OpenedFile<File>, FileFault> {
+fn open<R: rt::Files<File = File>>(system: &R, name: &str) -> Result<OpenedFile<File>, FileFault> {
     let mut kept_name = ArrayString::new();
     if kept_name.try_push_str(name).is_err() {
         return Err(FileFault::Failed);

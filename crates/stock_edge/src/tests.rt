@@ -271,7 +271,11 @@ fn reads_on_in_the_file_that_is_open(rt: HostRuntime) -> Result<(), Fail> {
     // From here on the name stands for another file.
     fs::rename(&rt, "second", "first")?;
     for (place, want) in [(3, b"def"), (4, b"efg"), (0, b"abc")] {
-        assert_eq!(rt; files.read_at("first", place, &mut buf), Ok(3), "at {place}");
+        assert_eq!(rt;
+            files.read_at("first", place, &mut buf),
+            Ok(3),
+            "at {place}"
+        );
         assert_eq!(rt; buf.as_slice(), want.as_slice(), "at {place}");
     }
     assert_eq!(rt; files.read_at("none", 0, &mut buf), Err(FileFault::Missing));

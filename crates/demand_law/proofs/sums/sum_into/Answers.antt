@@ -1,42 +1,30 @@
-use Rattle.std.proofs.Common.{ℕ, ◌≡◌, ◌+◌, ◌∙◌, List, length, sum, take, ap, sym, subst, arith, rules}
-use Rattle.std.proofs.lemmas.List.{take_at}
-use Rattle.demand_law.specs.Law.{IsLaw}
-use Rattle.demand_law.specs.Sequences.{laws_at, IsSumOf}
-use Rattle.demand_law.specs.LawSums.{sum-IsSumOf}
-use Rattle.demand_law.specs.ServedLaws.{greatest_sum-laws_at_le, totals_of-laws_at_le}
-use Rattle.demand_law.proofs.Leads.{width_more, totals_more, sum_more, sum_first}
+use Rattle.std.proofs.Common.{◌≡◌, List, ℕ, length, replicate, ap, ◌∙◌, sym, subst, arith}
+use Rattle.std.proofs.lemmas.List.{take_all}
+use Rattle.demand_law.specs.Sequences.{laws_at, totals_of, greatest_sum, IsSumOf}
+use Rattle.demand_law.proofs.CopiedLaws.{laws_at-alone, totals_of-replicate, greatest_sum-replicate}
 use Rattle.demand_law.proofs.sums.sum_into.Goals as goal
 
-pub loop-place-init : goal.loop-place-init
-loop-place-init c =
-    let laws = c.args.laws.now in
-    let first = c.weights-first.result.now in
-    let is : IsLaw first = subst IsLaw (sym c.weights-first.ensures.weights) c.weights-first.ensures.law in
-    let alone = sum_first laws c.args.from first (c.weights-first.ensures.weights ∙ c.law_of.ensures) is in
-    let P : List ℕ → Type 0 = λ sums. IsSumOf sums (laws_at laws c.args.from 1) in
-    let copied = c.copy_from_slice.ensures.after in
-    (alone.width, subst P (sym (take_at c.copy_from_slice.new.self _ _ (ap length copied) ∙ copied)) alone)
+pub sum_copies-requires-clause-fits : goal.sum_copies-requires-clause-fits
+sum_copies-requires-clause-fits c =
+    let law = c.weights.result.now in
+    let all : laws_at c.args.laws.now c.args.from c.args.count ≡ replicate c.args.count law =
+    laws_at-alone c.args.laws.now law _ c.args.from c.args.count c.in-len1.len_at_least c.in-len1.len_below (c.weights.ensures.weights ∙ c.law-item.is) in
+    omega (arith, c.requires.fits, ap totals_of all, totals_of-replicate law c.args.count)
 
-pub add_law-len-requires-clause-room : goal.add_law-len-requires-clause-room
-add_law-len-requires-clause-room c =
-    let laws = c.args.laws.now in
-    let here = c.weights-law.ensures.weights ∙ c.law_of-in-loop-place.ensures in
-    let kept : length c.loop-place.sums ≡ length c.args.sums.now = search rules in
-    omega (arith, kept, c.requires.width, width_more laws c.args.from c.loop-place.place c.weights-law.result.now here c.loop-place.len c.loop-place.invariant.0, greatest_sum-laws_at_le laws c.args.from (c.loop-place.place + 1) c.args.count (omega arith))
+pub sum_copies-requires-clause-room : goal.sum_copies-requires-clause-room
+sum_copies-requires-clause-room c =
+    let law = c.weights.result.now in
+    let all : laws_at c.args.laws.now c.args.from c.args.count ≡ replicate c.args.count law =
+    laws_at-alone c.args.laws.now law _ c.args.from c.args.count c.in-len1.len_at_least c.in-len1.len_below (c.weights.ensures.weights ∙ c.law-item.is) in
+    omega (arith, c.requires.width, ap greatest_sum all, greatest_sum-replicate law c.args.count)
 
-pub add_law-len-requires-clause-fits : goal.add_law-len-requires-clause-fits
-add_law-len-requires-clause-fits c =
-    let laws = c.args.laws.now in
-    let here = c.weights-law.ensures.weights ∙ c.law_of-in-loop-place.ensures in
-    let so_far = sum-IsSumOf (take c.loop-place.len c.loop-place.sums) (laws_at laws c.args.from c.loop-place.place) c.loop-place.invariant.1 in
-    omega (arith, totals_more laws c.args.from c.loop-place.place c.weights-law.result.now here (sum (take c.loop-place.len c.loop-place.sums)) so_far, totals_of-laws_at_le laws c.args.from (c.loop-place.place + 1) c.args.count (omega arith) c.requires.are_laws, c.requires.fits)
-
-pub loop-place-preserved : goal.loop-place-preserved
-loop-place-preserved c =
-    let laws = c.args.laws.now in
-    let law = c.weights-law.result.now in
-    let here = c.weights-law.ensures.weights ∙ c.law_of-in-loop-place.ensures in
-    let is : IsLaw law = subst IsLaw (sym c.weights-law.ensures.weights) c.weights-law.ensures.law in (
-      omega (arith, is.some, c.add_law-len.ensures.width, width_more laws c.args.from c.loop-place.place law here c.loop-place.len c.loop-place.invariant.0),
-      sum_more laws c.args.from c.loop-place.place law here _ _ is c.loop-place.invariant.1 c.add_law-len.ensures.is_sum,
-    )
+pub returns-in-len1 : goal.returns-in-len1
+returns-in-len1 c =
+    let law = c.weights.result.now in
+    let sums = c.sum_copies.new.sums in
+    let all : laws_at c.args.laws.now c.args.from c.args.count ≡ replicate c.args.count law =
+    laws_at-alone c.args.laws.now law _ c.args.from c.args.count c.in-len1.len_at_least c.in-len1.len_below (c.weights.ensures.weights ∙ c.law-item.is) in
+    let whole : length sums ≡ c.sum_copies.result = omega (arith, c.requires.width, c.sum_copies.ensures.same, c.sum_copies.ensures.width, ap greatest_sum all, greatest_sum-replicate law c.args.count) in
+    let P : List ℕ → Type 0 = λ s. IsSumOf s (replicate c.args.count law) in
+    let Q : List (List ℕ) → Type 0 = λ laws. IsSumOf sums laws in
+    subst Q (sym all) (subst P (take_all c.sum_copies.result sums (omega (arith, whole))) c.sum_copies.ensures.is_sum)
