@@ -2,13 +2,14 @@
 use Rattle.std.proofs.Common.{◌≡◌, ℕ, Bool, true, false, cond, List, [], ◌∷◌, ◌++◌, Option, Some, None, refl, sym, ap, ◌∙◌, append_assoc, append-nil}
 use Rattle.std.specs.Prelude.{is_none}
 use Rattle.decision_model.specs.declared.instance.Instance.{Instance}
-use Rattle.value_cert.specs.Breaches.{Breach, breach_behind, breach_or, broken_rule, lines_breach_from, lines_breach, has_ended}
-use Rattle.value_cert.specs.Grammar.{step_of, place_from, place_after}
+use Rattle.value_cert.specs.Breaches.{Breach, breach_behind, breach_or, broken_rule, lines_breach_from, lines_breach}
+use Rattle.value_cert.specs.Grammar.{has_ended, step_of, place_from, place_after}
 use Rattle.value_cert.specs.GrammarFacts.{place_from-append}
 use Rattle.value_cert.specs.declared.line.CertLine.{CertLine}
 use Rattle.value_cert.specs.declared.place.Place.{Place}
 use Rattle.value_cert.specs.declared.place.Place.TheVariants as place
-use Rattle.cert_check.specs.Kinds.{later_rule}
+use Rattle.value_cert.specs.Rules.{later_rule}
+use Rattle.value_cert.specs.Standards.{rules_of}
 use Rattle.cert_check.specs.Verdicts.{rejected_by, verdict_or, passing_verdict, fed_verdict, is_rejection}
 use Rattle.cert_check.specs.declared.verdicts.Verdict.{Verdict}
 use Rattle.cert_check.specs.declared.verdicts.Verdict.TheVariants.{Going, Accepted}
@@ -67,6 +68,11 @@ place_more lines line at h =
     one_step None = refl
     one_step (Some at) = refl
 
+-- ---- a step
+pub numbers_by_step : (numbers : Bool) (next : Option Place) (at : Place) → cond numbers next None ≡ Some at → numbers ≡ true
+numbers_by_step true next at h = refl
+numbers_by_step false next at h = cc
+
 -- ---- a line behind lines that break no rule
 rule_at_none : (next : Option Place) (rule : Option ℕ) → next ≡ None → cond (is_none next) (Some 1) rule ≡ Some 1
 rule_at_none next rule h = rw h refl
@@ -76,11 +82,11 @@ rule_at_some next rule at h = rw h refl
 
 -- it may not stand there
 pub broken_place : (item : Instance) (lines : List CertLine) (line : CertLine) (at : Place) → place_after lines ≡ Some at → step_of at line ≡ None → broken_rule item lines line ≡ Some 1
-broken_place item lines line at h none = rule_at_none (place_after (lines ++ line ∷ [])) (later_rule item lines line) (place_more lines line at h ∙ none)
+broken_place item lines line at h none = rule_at_none (place_after (lines ++ line ∷ [])) (later_rule (rules_of item) lines line) (place_more lines line at h ∙ none)
 
 -- it may
-pub later_broken : (item : Instance) (lines : List CertLine) (line : CertLine) (at next : Place) → place_after lines ≡ Some at → step_of at line ≡ Some next → broken_rule item lines line ≡ later_rule item lines line
-later_broken item lines line at next h some = rule_at_some (place_after (lines ++ line ∷ [])) (later_rule item lines line) next (place_more lines line at h ∙ some)
+pub later_broken : (item : Instance) (lines : List CertLine) (line : CertLine) (at next : Place) → place_after lines ≡ Some at → step_of at line ≡ Some next → broken_rule item lines line ≡ later_rule (rules_of item) lines line
+later_broken item lines line at next h some = rule_at_some (place_after (lines ++ line ∷ [])) (later_rule (rules_of item) lines line) next (place_more lines line at h ∙ some)
 
 -- ---- verdicts
 pub verdict_some : (breach : Option Breach) (other : Verdict) (b : Breach) → breach ≡ Some b → verdict_or breach other ≡ rejected_by b

@@ -2,15 +2,15 @@
 use Rattle.std.proofs.Common.{◌≡◌, ℕ, ◌+◌, ◌-◌, ◌^◌, min, Bool, true, false, cond, List, [], ◌∷◌, ◌++◌, Option, Some, None, refl, sym, ap, ◌∙◌, arith}
 use Rattle.std.proofs.lemmas.List.{length-append}
 use Rattle.decision_model.specs.declared.instance.Instance.{Instance}
-use Rattle.value_cert.specs.Breaches.{Breach, breach_behind, broken_rule, lines_breach, next_line, has_ended}
-use Rattle.value_cert.specs.Grammar.{step_of, place_after}
+use Rattle.value_cert.specs.Breaches.{Breach, breach_behind, broken_rule, lines_breach, next_line}
+use Rattle.value_cert.specs.Grammar.{has_ended, step_of, place_after}
 use Rattle.value_cert.specs.declared.line.CertLine.{CertLine}
 use Rattle.value_cert.specs.declared.place.Place.{Place}
-use Rattle.cert_check.specs.Kinds.{AnswersKind}
+use Rattle.cert_check.specs.Answers.{AnswersLine}
+use Rattle.cert_check.specs.Kinds.{KnowsKind}
 use Rattle.cert_check.specs.Checks.{IsPassing, IsCheckOf}
 use Rattle.cert_check.specs.Verdicts.{rejected_by, verdict_or, passing_verdict, fed_verdict, end_verdict, is_rejection}
 use Rattle.cert_check.specs.declared.check.Check.{Check}
-use Rattle.cert_check.specs.declared.kind_check.KindCheck.{KindCheck}
 use Rattle.cert_check.specs.declared.verdicts.Verdict.{Verdict}
 use Rattle.cert_check.specs.declared.verdicts.Verdict.TheVariants.{Going, Accepted, Rejected}
 use Rattle.cert_check.proofs.Breaches.{or_none, or_some, passing_more, place_more, broken_place, later_broken, verdict_some, verdict_none, unbroken_by, rejected_more, rejected_fails}
@@ -46,42 +46,42 @@ pub misplaced_fails : (item : Instance) (check : Check) (lines : List CertLine) 
 misplaced_fails item check lines line known none = fails_at item check lines line 1 known (broken_place item lines line check.place known.place none)
 
 -- it breaks a later rule
-later_at : (item : Instance) (check : Check) (lines : List CertLine) (line : CertLine) (next : Place) (known : KindCheck) (answer : Option ℕ)
-    → IsPassing item check lines → step_of check.place line ≡ Some next → AnswersKind item lines line known answer → broken_rule item lines line ≡ answer
+later_at : (item : Instance) (check : Check) (lines : List CertLine) (line : CertLine) (next : Place) (known : Instance → List CertLine → Type 0) (answer : Option ℕ)
+    → IsPassing item check lines → step_of check.place line ≡ Some next → AnswersLine known item lines line answer → broken_rule item lines line ≡ answer
 later_at item check lines line next known answer passing step answers = later_broken item lines line check.place next passing.place step ∙ sym answers.rule
 
-pub broken_later : (item : Instance) (check : Check) (lines : List CertLine) (line : CertLine) (next : Place) (known : KindCheck) (answer : Option ℕ) (rule : ℕ)
-    → IsPassing item check lines → step_of check.place line ≡ Some next → AnswersKind item lines line known answer → answer ≡ Some rule
+pub broken_later : (item : Instance) (check : Check) (lines : List CertLine) (line : CertLine) (next : Place) (known : Instance → List CertLine → Type 0) (answer : Option ℕ) (rule : ℕ)
+    → IsPassing item check lines → step_of check.place line ≡ Some next → AnswersLine known item lines line answer → answer ≡ Some rule
     → Rejected check.number rule ≡ fed_verdict item (lines ++ line ∷ [])
 broken_later item check lines line next known answer rule passing step answers some =
     rejected_at item check lines line rule passing (later_at item check lines line next known answer passing step answers ∙ some)
 
-pub broken_later_fails : (item : Instance) (check : Check) (lines : List CertLine) (line : CertLine) (next : Place) (known : KindCheck) (answer : Option ℕ) (rule : ℕ)
-    → IsPassing item check lines → step_of check.place line ≡ Some next → AnswersKind item lines line known answer → answer ≡ Some rule
+pub broken_later_fails : (item : Instance) (check : Check) (lines : List CertLine) (line : CertLine) (next : Place) (known : Instance → List CertLine → Type 0) (answer : Option ℕ) (rule : ℕ)
+    → IsPassing item check lines → step_of check.place line ≡ Some next → AnswersLine known item lines line answer → answer ≡ Some rule
     → lines_breach item (lines ++ line ∷ []) ≡ None → ⊥
 broken_later_fails item check lines line next known answer rule passing step answers some =
     fails_at item check lines line rule passing (later_at item check lines line next known answer passing step answers ∙ some)
 
 -- it breaks none
-still_unbroken : (item : Instance) (check : Check) (lines : List CertLine) (line : CertLine) (next : Place) (known : KindCheck) (answer : Option ℕ)
-    → IsPassing item check lines → step_of check.place line ≡ Some next → AnswersKind item lines line known answer → answer ≡ None
+still_unbroken : (item : Instance) (check : Check) (lines : List CertLine) (line : CertLine) (next : Place) (known : Instance → List CertLine → Type 0) (answer : Option ℕ)
+    → IsPassing item check lines → step_of check.place line ≡ Some next → AnswersLine known item lines line answer → answer ≡ None
     → lines_breach item (lines ++ line ∷ []) ≡ None
 still_unbroken item check lines line next known answer passing step answers none =
     passing_more item lines line passing.unbroken
     ∙ or_none lines (broken_rule item lines line) None (later_at item check lines line next known answer passing step answers ∙ none)
 
-pub passes_verdict : (item : Instance) (check : Check) (lines : List CertLine) (line : CertLine) (next : Place) (known : KindCheck) (answer : Option ℕ)
-    → IsPassing item check lines → step_of check.place line ≡ Some next → AnswersKind item lines line known answer → answer ≡ None
+pub passes_verdict : (item : Instance) (check : Check) (lines : List CertLine) (line : CertLine) (next : Place) (known : Instance → List CertLine → Type 0) (answer : Option ℕ)
+    → IsPassing item check lines → step_of check.place line ≡ Some next → AnswersLine known item lines line answer → answer ≡ None
     → passing_verdict (Some next) ≡ fed_verdict item (lines ++ line ∷ [])
 passes_verdict item check lines line next known answer passing step answers none =
     ap passing_verdict (sym (place_more lines line check.place passing.place ∙ step))
     ∙ sym (verdict_none (lines_breach item (lines ++ line ∷ [])) (passing_verdict (place_after (lines ++ line ∷ []))) (still_unbroken item check lines line next known answer passing step answers none))
 
 pub passes : (item : Instance) (check new : Check) (lines : List CertLine) (line : CertLine) (next : Place) (answer : Option ℕ)
-    → IsPassing item check lines → step_of check.place line ≡ Some next → AnswersKind item lines line new.kind answer → answer ≡ None
+    → IsPassing item check lines → step_of check.place line ≡ Some next → AnswersLine (KnowsKind new.kind) item lines line answer → answer ≡ None
     → new.place ≡ next → new.number ≡ min (check.number + 1) (2 ^ 64 - 1) → IsPassing item new (lines ++ line ∷ [])
 passes item check new lines line next answer passing step answers none place number = record {
-  unbroken = still_unbroken item check lines line next new.kind answer passing step answers none;
+  unbroken = still_unbroken item check lines line next (KnowsKind new.kind) answer passing step answers none;
   place = place_more lines line check.place passing.place ∙ step ∙ ap Some (sym place);
   number = number ∙ ap (λ (n : ℕ). min (n + 1) (2 ^ 64 - 1)) passing.number ∙ sym (next_line-more lines line);
   kind = answers.knows none;
@@ -98,6 +98,7 @@ rejected_keeps item check lines line stands h = stands.verdict ∙ sym (rejected
 
 pub rejected_stands : (item : Instance) (check : Check) (lines : List CertLine) (line : CertLine) → IsCheckOf item check lines → is_rejection check.verdict ≡ true → IsCheckOf item check (lines ++ line ∷ [])
 rejected_stands item check lines line stands h = record {
+  valid = stands.valid;
   verdict = rejected_keeps item check lines line stands h;
   passing = λ none. absurd (rejected_fails item lines (line ∷ []) (ap is_rejection (sym stands.verdict) ∙ h) none);
 }

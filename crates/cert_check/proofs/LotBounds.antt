@@ -2,9 +2,9 @@
 use Rattle.std.proofs.Common.{ℕ, ◌+◌, ◌-◌, ◌*◌, ◌^◌, ◌<◌, ◌≤◌, length, slice_index, sum, drop, arith}
 use Rattle.std.proofs.lemmas.List.Sums.{sum_by-le, sum_by-take-le, sum_by-take-drop}
 use Rattle.std.proofs.lemmas.Nat.{mul-le}
-use Rattle.decision_model.specs.declared.instance.LotSize.{LotSize}
+use Rattle.decision_model.specs.declared.lots.LotSize.{LotSize}
 use Rattle.decision_model.specs.Lots.{IsReadableLots}
-use Rattle.value_cert.specs.LotRules.{holding_between}
+use Rattle.value_cert.specs.LotPlans.{holding_between}
 
 pub demand_small : (item : LotSize) → IsReadableLots item → (k : ℕ) → k < length item.demand → slice_index item.demand k ≤ 1000000
 demand_small item readable k lt = readable.demand k 0 lt

@@ -3,10 +3,12 @@ use Rattle.std.proofs.Common.{◌≡◌, ℕ, ◌+◌, ◌-◌, ◌<◌, ◌≤�
 use Rattle.std.specs.Prelude.{unsigned_abs, slice_set}
 use Rattle.std.proofs.lemmas.Bool.{cases_lt, eq-eqb, ne_eqb, leb-true, leb-false}
 use Rattle.std.proofs.lemmas.List.{length-set}
-use Rattle.decision_model.specs.declared.instance.LotSize.{LotSize}
-use Rattle.value_cert.specs.LotRules.{holding_between, serving_cost}
-use Rattle.value_cert.specs.LotSums.{stretch-none, stretch-first}
-use Rattle.cert_check.specs.LotsAnswers.{cell_at, raised_cell}
+use Rattle.decision_model.specs.Lots.{IsValidLots}
+use Rattle.decision_model.specs.declared.lots.LotSize.{LotSize}
+use Rattle.lot_lemmas.specs.LotRecursionFacts.{later_serves}
+use Rattle.value_cert.specs.LotPlans.{holding_between, serving_cost}
+use Rattle.lot_lemmas.specs.LotSums.{stretch-none, stretch-first}
+use Rattle.cert_check.specs.LotCells.{cell_at, raised_cell}
 
 -- the dual of period s was added to the cells from a period on, and passes no setup there; the cells before it are as they were
 pub record IsRaised (item : LotSize) (before now : List ℤ) (s dual start held : ℕ) : Type 0 where
@@ -119,3 +121,32 @@ pub past_more : (item : LotSize) (before now : List ℤ) (s dual t held cost : �
     → slice_index item.setup t < raised_cell item before s dual t
 past_more item before now s dual t held cost raised cost_is fails =
     omega (arith, leb-false _ _ fails, earlier_cell item before s dual t (omega (arith, raised.from)), ap (λ n. dual - n) cost_is, raised.kept t (omega arith))
+
+-- ---- where serving from a period costs no less than the dual
+-- no earlier period serves for less, so that no cell before it is raised
+unraised_cell : (item : LotSize) → IsValidLots item → (before : List ℤ) (s dual t start cost : ℕ) → t ≤ start → start < s → s < length item.demand
+    → cost ≡ serving_cost item start s → dual ≤ cost → raised_cell item before s dual t ≡ cell_at before t
+unraised_cell item valid before s dual t start cost le lt inside cost_is enough =
+    omega (arith, earlier_cell item before s dual t (omega arith), later_serves item valid t start s le (omega arith) inside, cost_is)
+
+-- the cells from the first period on
+pub record IsRaisedAll (item : LotSize) (before now : List ℤ) (s dual : ℕ) : Type 0 where
+  pub within : ((t : ℕ) → t < s → cell_at before t ≤ slice_index item.setup t) → (t : ℕ) → t ≤ s → raised_cell item before s dual t ≤ slice_index item.setup t
+  pub raised : (t : ℕ) → t ≤ s → cell_at now t ≡ raised_cell item before s dual t
+
+pub ended_early : (item : LotSize) → IsValidLots item → (before now : List ℤ) (s dual start held cost : ℕ) → IsRaised item before now s dual (start + 1) held → s < length item.demand
+    → cost ≡ serving_cost item start s → dual ≤ cost → IsRaisedAll item before now s dual
+ended_early item valid before now s dual start held cost raised inside cost_is enough = record {
+  within = λ covered t le. split (raised_cell item before s dual t ≤ slice_index item.setup t) t (raised.within t) (λ early. omega (arith, unraised t early, covered t (omega (arith, raised.from)))) le;
+  raised = λ t le. split (cell_at now t ≡ raised_cell item before s dual t) t (raised.raised t) (λ early. raised.kept t early ∙ sym (unraised t early)) le;
+}
+  where
+    unraised : (t : ℕ) → t < start + 1 → raised_cell item before s dual t ≡ cell_at before t
+    unraised t early = unraised_cell item valid before s dual t start cost (omega arith) (omega (arith, raised.from)) inside cost_is enough
+
+    split : (P : Type 0) (t : ℕ) → (start + 1 ≤ t → t ≤ s → P) → (t < start + 1 → P) → t ≤ s → P
+    split P t later early le = by_place (cases_lt t (start + 1))
+      where
+        by_place : (t < start + 1) ⊎ (start + 1 ≤ t) → P
+        by_place (inl lt) = early lt
+        by_place (inr ge) = later ge le

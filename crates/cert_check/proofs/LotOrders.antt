@@ -6,13 +6,13 @@ use Rattle.std.proofs.lemmas.List.{take_all, get_or_append_left, get_or-append_r
 use Rattle.std.proofs.lemmas.List.Sums.{sum_by_push, sum_by_more, list_all-from_AllPass}
 use Rattle.std.proofs.lemmas.List.FromFn.{get_or-range_with_len, length-range_with_len}
 use Rattle.std.proofs.lemmas.Nat.{mul-le}
-use Rattle.decision_model.specs.declared.instance.LotSize.{LotSize}
+use Rattle.decision_model.specs.declared.lots.LotSize.{LotSize}
 use Rattle.decision_model.specs.Lots.{IsReadableLots}
-use Rattle.value_cert.specs.LotDuality.{covers_at}
-use Rattle.value_cert.specs.LotPlans.{demand_upto, stock_after, setup_paid, period_cost}
-use Rattle.value_cert.specs.LotRules.{serving_cost, excess, excess_upto, covers_excess, is_dual_of_demand, is_plan_upto}
-use Rattle.value_cert.specs.LotSums.{sum_from, sum_from-last, sum_from-same, stretch-none}
-use Rattle.cert_check.specs.LotsAnswers.{cell_at, raised_cell}
+use Rattle.lot_lemmas.specs.LotDuality.{covers_at}
+use Rattle.value_cert.specs.LotPlans.{demand_upto, stock_after, setup_paid, period_cost, serving_cost}
+use Rattle.value_cert.specs.LotsRules.{excess, excess_upto, covers_excess, is_dual_of_demand, is_plan_upto}
+use Rattle.lot_lemmas.specs.LotSums.{sum_from, sum_from-last, sum_from-same, stretch-none}
+use Rattle.cert_check.specs.LotCells.{cell_at, raised_cell}
 use Rattle.cert_check.proofs.LotBounds.{demand_small, setup_small, unit_small}
 
 -- ---- lists with one more

@@ -5,22 +5,13 @@ use Rattle.std.proofs.lemmas.Bool.{false≢true}
 use Rattle.std.proofs.lemmas.List.{length-append, length-drop, take_all, take-append-drop}
 use borrow.Author.Tests.{ne_eqb}
 use Rattle.decision_model.specs.declared.instance.Instance.{Instance}
-use Rattle.value_cert.specs.Breaches.{Breach, breach_behind, has_ended, lines_breach, next_line, pieces_breach, text_breach}
+use Rattle.value_cert.specs.Breaches.{Breach, breach_behind, lines_breach, next_line, pieces_breach, text_breach}
+use Rattle.value_cert.specs.Grammar.{has_ended, place_after}
 use Rattle.value_cert.specs.BreachFacts.{refused_breach}
-use Rattle.decision_model.specs.declared.instance.Instance.TheVariants as instance
-use Rattle.decision_model.specs.declared.instance.LotSize.{LotSize}
-use Rattle.decision_model.specs.Lots.{IsReadableLots}
-use Rattle.value_cert.specs.Grammar.{place_after, IsWhole}
+use Rattle.value_cert.specs.CertFacts.{ended_is_whole}
 use Rattle.value_cert.specs.NumberFacts.{both}
 use Rattle.value_cert.specs.Texts.{lines_text}
-use Rattle.value_cert.specs.declared.place.Place.{Place}
-use Rattle.value_cert.specs.declared.place.Place.TheVariants as place
-use Rattle.cert_check.specs.Kinds.{IsKindCheckOf}
 use Rattle.cert_check.specs.Meaning.{IsCertified}
-use Rattle.cert_check.specs.declared.kind_check.KindCheck.{KindCheck}
-use Rattle.cert_check.specs.declared.kind_check.KindCheck.TheVariants as check
-use Rattle.cert_check.proofs.Certified.{certified_news}
-use Rattle.cert_check.proofs.LotCertificates.{certified_lots}
 use Rattle.value_cert.specs.Reading.{ReaderState, IsUnfinished, HasRead, KeepsPiece, EndsLine, Reads, Refuses}
 use Rattle.value_cert.specs.declared.line.CertLine.{CertLine}
 use Rattle.value_cert.specs.declared.reader.Progress.{Progress}
@@ -32,7 +23,7 @@ use Rattle.cert_check.specs.declared.text_check.TextCheck.{TextCheck}
 use Rattle.cert_check.specs.declared.verdicts.Verdict.{Verdict}
 use Rattle.cert_check.specs.declared.verdicts.Verdict.TheVariants.{Going, Accepted, Rejected}
 use Rattle.cert_check.proofs.Breaches.{unbroken_by}
-use Rattle.cert_check.proofs.Texts.{pieces_of, read_text, read_broken, read_end}
+use Rattle.cert_check.proofs.Texts.{pieces_of, read_text, read_broken, read_end, certified_lines}
 
 -- ---- what a verdict tells
 some_none : {A : Type 0} (x : A) → Some x ≡ None → ⊥
@@ -190,11 +181,6 @@ taken_on piece front rest count whole split all =
     ∙ sym (append_assoc front (take count rest) (take (whole - count) (drop count rest)))
 
 -- ---- what is accepted
-ended_place : (at : Option Place) → has_ended at ≡ true → at ≡ Some place.Ended
-ended_place None h = absurd (false≢true h)
-ended_place (Some place.Ended) h = refl
-ended_place (Some _) h = absurd (false≢true h)
-
 whole_by : (ended : Bool) (breach : Breach) → cond ended None (Some breach) ≡ None → ended ≡ true
 whole_by true breach h = refl
 whole_by false breach h = cc
@@ -202,13 +188,6 @@ whole_by false breach h = cc
 no_bytes : (bytes : List ℕ) → (length bytes == 0) ≡ true → bytes ≡ []
 no_bytes [] h = refl
 no_bytes (byte ∷ bytes) h = absurd (false≢true (sym (ne_eqb (length (byte ∷ bytes)) 0 (λ e. absurd (omega (arith, e)))) ∙ h))
-
-certified_lines : (item : Instance) (check : KindCheck) (lines : List CertLine) (text : List ℕ) → IsKindCheckOf item check lines → IsWhole lines → lines_breach item lines ≡ None → text ≡ lines_text lines → IsCertified item text
-certified_lines (instance.News item) (check.News known) lines text of whole none is = certified_news item lines text whole none is
-certified_lines (instance.Lots item) (check.Lots known) lines text of whole none is =
-    let P : LotSize → Type 0 = IsReadableLots in
-    certified_lots item lines text (subst P of.lots known.readable) whole none is
-certified_lines _ known lines text of whole none is = absurd of
 
 pub accepted_certified : (item : Instance) (check : TextCheck) (bytes : List ℕ) → IsTextCheckOf item check bytes → check.verdict ≡ Accepted → IsCertified item bytes
 accepted_certified item check bytes stands accepted =
@@ -218,5 +197,5 @@ accepted_certified item check bytes stands accepted =
     let ended = both (has_ended (place_after reading.lines)) (length check.reader.unfinished == 0)
     (whole_by (has_ended (place_after reading.lines) && (length check.reader.unfinished == 0)) (breach_behind reading.lines 1) (sym (read_end item check.reader bytes reading.lines reading.read reading.short reading.unbroken) ∙ whole)) in
     let empty = no_bytes check.reader.unfinished ended.1 in
-    certified_lines item check.check.kind reading.lines bytes (reading.fed.passing reading.unbroken).kind (ended_place (place_after reading.lines) ended.0) reading.unbroken
+    certified_lines item reading.lines bytes reading.fed.valid (ended_is_whole reading.lines ended.0) reading.unbroken
     (reading.read.text ∙ ap (λ (rest : List ℕ). lines_text reading.lines ++ rest) empty ∙ append-nil (lines_text reading.lines))

@@ -1,9 +1,10 @@
 pub mod Tables
 pub mod Verdicts
-pub mod NewsAnswers
+pub mod Answers
 pub mod NewsChecks
-pub mod LotsAnswers
+pub mod LotCells
 pub mod LotsChecks
+pub mod LaterChecks
 pub mod Kinds
 pub mod Checks
 pub mod Meaning

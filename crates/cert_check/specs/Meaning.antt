@@ -6,7 +6,7 @@ use Rattle.decision_model.specs.declared.instance.Instance.TheVariants.{News}
 use Rattle.decision_model.specs.Valid.{IsValid}
 use Rattle.value_cert.specs.Meaning.{Certifies, solved_cert}
 use Rattle.value_cert.specs.Texts.{HasText, cert_text}
-use Rattle.value_cert.specs.declared.certificates.Cert.{Cert}
+use Rattle.value_cert.specs.declared.cert.Cert.{Cert}
 
 -- the text is that of a certificate that names a policy than which none costs less, and its cost
 pub record IsCertified (item : Instance) (text : List ℕ) : Type 0 where

@@ -1,50 +1,61 @@
--- How much room a check needs.
+-- How much room a check needs: a room a kind.
 use Rattle.std.specs.Prelude.{ℕ, ◌+◌, ◌*◌, min, length, Option, Some, None}
 use Rattle.demand_law.specs.Law.{greatest_of}
 use Rattle.demand_law.specs.Sequences.{greatest_in}
 use Rattle.decision_model.specs.declared.instance.Instance.{Instance}
 use Rattle.decision_model.specs.declared.instance.Instance.TheVariants.{News, Lots, Finite, Average, Serial}
-use Rattle.decision_model.specs.declared.instance.Finite.{Finite as FiniteItem}
-use Rattle.decision_model.specs.declared.instance.Average.{Average as AverageItem}
-use Rattle.decision_model.specs.declared.instance.Serial.{Serial as SerialItem}
+use Rattle.decision_model.specs.declared.lots.LotSize.{LotSize}
+use Rattle.decision_model.specs.declared.finite.Finite.{Finite as FiniteHorizon}
+use Rattle.decision_model.specs.declared.average.Average.{Average as AverageCost}
+use Rattle.decision_model.specs.declared.serial.Serial.{Serial as SerialSystem}
 use Rattle.decision_model.specs.Finite.{finite_positions}
 use Rattle.decision_model.specs.Average.{average_positions}
 use Rattle.decision_model.specs.Serial.{serial_positions}
+use Rattle.cert_check.specs.declared.tables.Room.{Room}
+
+abbrev pub no_room : Room
+no_room = record { cells = 0; sums = 0 }
+
+-- a cell a period
+abbrev pub lots_room : LotSize → Room
+lots_room lots = record { cells = length lots.demand; sums = 0 }
+
+-- two sums for each demand that a lead time's periods and one more can have together
+abbrev pub lead_sums : ℕ → ℕ → ℕ
+lead_sums lead greatest = 2 * ((lead + 1) * greatest + 1)
 
 -- two cells for each position that an order of the greatest size can pass, where orders have one
 abbrev pub capacity_cells : Option ℕ → ℕ → ℕ
 capacity_cells None positions = 0
 capacity_cells (Some most) positions = 2 * min most positions
 
-abbrev pub finite_cells : FiniteItem → ℕ
-finite_cells item = 2 * finite_positions item + capacity_cells item.most (finite_positions item)
+abbrev pub finite_room : FiniteHorizon → Room
+finite_room finite = record {
+  cells = 2 * finite_positions finite + capacity_cells finite.most (finite_positions finite);
+  sums = lead_sums finite.lead (greatest_in finite.laws);
+}
 
-abbrev pub average_cells : AverageItem → ℕ
-average_cells item = 2 * average_positions item
+abbrev pub average_room : AverageCost → Room
+average_room average = record {
+  cells = 2 * average_positions average;
+  sums = lead_sums average.lead (greatest_of average.law);
+}
 
-abbrev pub serial_cells : SerialItem → ℕ
-serial_cells item = (length item.holding + 2) * serial_positions item
+abbrev pub serial_room : SerialSystem → Room
+serial_room serial = record { cells = (length serial.holding + 2) * serial_positions serial; sums = 0 }
+
+-- the room that a check of the instance's kind needs: the one dispatch over kinds
+abbrev pub room_of : Instance → Room
+room_of (News newsvendor) = no_room
+room_of (Lots lots) = lots_room lots
+room_of (Finite finite) = finite_room finite
+room_of (Average average) = average_room average
+room_of (Serial serial) = serial_room serial
 
 -- the cells of a check
 abbrev pub cell_count : Instance → ℕ
-cell_count (News item) = 0
-cell_count (Lots item) = length item.demand
-cell_count (Finite item) = finite_cells item
-cell_count (Average item) = average_cells item
-cell_count (Serial item) = serial_cells item
-
--- two sums for each demand that a lead time's periods and one more can have together
-abbrev pub lead_sums : ℕ → ℕ → ℕ
-lead_sums lead greatest = 2 * ((lead + 1) * greatest + 1)
-
-abbrev pub finite_sums : FiniteItem → ℕ
-finite_sums item = lead_sums item.lead (greatest_in item.laws)
-
-abbrev pub average_sums : AverageItem → ℕ
-average_sums item = lead_sums item.lead (greatest_of item.law)
+cell_count instance = (room_of instance).cells
 
 -- the sums of a check
 abbrev pub sum_count : Instance → ℕ
-sum_count (Finite item) = finite_sums item
-sum_count (Average item) = average_sums item
-sum_count _ = 0
+sum_count instance = (room_of instance).sums

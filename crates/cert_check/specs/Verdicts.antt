@@ -1,8 +1,8 @@
 -- What a check says, and of what.
 use Rattle.std.specs.Prelude.{List, Bool, true, false, if◌then◌else◌, Option, Some, None}
 use Rattle.decision_model.specs.declared.instance.Instance.{Instance}
-use Rattle.value_cert.specs.Breaches.{Breach, breach_behind, has_ended, lines_breach}
-use Rattle.value_cert.specs.Grammar.{place_after}
+use Rattle.value_cert.specs.Breaches.{Breach, breach_behind, lines_breach}
+use Rattle.value_cert.specs.Grammar.{has_ended, place_after}
 use Rattle.value_cert.specs.declared.line.CertLine.{CertLine}
 use Rattle.value_cert.specs.declared.place.Place.{Place}
 use Rattle.cert_check.specs.declared.verdicts.Verdict.{Verdict}

@@ -4,12 +4,12 @@ ghost use Rattle.decision_model.specs.declared.instance.Instance.{Instance};
 ghost use Rattle.decision_model.specs.Valid.{IsValid};
 ghost use Rattle.value_cert.specs.Breaches.{lines_breach};
 ghost use Rattle.value_cert.specs.declared.line.CertLine.{CertLine};
-ghost use Rattle.cert_check.specs.Kinds.{IsChecked};
 ghost use Rattle.cert_check.specs.Tables.{cell_count, sum_count};
 ghost use Rattle.cert_check.specs.Verdicts.{fed_verdict, end_verdict, passing_verdict};
 ghost use Rattle.cert_check.specs.Checks.{IsPassing, IsCheckOf};
 
 use crate::kind_check::KindCheck;
+use crate::kind_rules::KindRules;
 use crate::verdicts::Verdict;
 use decision_model::Instance;
 use value_cert::{CertLine, Place};
@@ -31,27 +31,26 @@ pub struct Check<'a> {
 fn verdict_at(place: Place) -> Verdict
     ensures { result ≡ passing_verdict (Some place) }
 {
-    match place {
-        Place::Ended => Verdict::Accepted,
-        _ => Verdict::Going,
+    if place.has_ended() {
+        return Verdict::Accepted;
     }
+    Verdict::Going
 }
 
 impl<'a> Check<'a> {
     /// A check of a certificate for the instance, to which no line was fed. It works in the two tables, whose lengths
-    /// are `cells_of(item)` and `sums_of(item)`, whatever they hold.
-    pub fn new(item: &'a Instance, cells: &'a mut [i128], sums: &'a mut [u128]) -> Check<'a>
-        requires valid { IsValid item.now }
-        requires checked { IsChecked item.now }
-        requires cells { length cells.old ≡ cell_count item.now }
-        requires sums { length sums.old ≡ sum_count item.now }
-        ensures { IsCheckOf item.now result [] }
+    /// are `cells_of(instance)` and `sums_of(instance)`, whatever they hold.
+    pub fn new(instance: &'a Instance, cells: &'a mut [i128], sums: &'a mut [u128]) -> Check<'a>
+        requires valid { IsValid instance.now }
+        requires cells { length cells.old ≡ cell_count instance.now }
+        requires sums { length sums.old ≡ sum_count instance.now }
+        ensures { IsCheckOf instance.now result [] }
     {
         Check {
             place: Place::Start,
             number: 1,
             verdict: Verdict::Going,
-            kind: KindCheck::new(item, cells, sums),
+            kind: KindCheck::new(instance, cells, sums),
         }
     }
 
@@ -67,10 +66,10 @@ impl<'a> Check<'a> {
 
     // The verdict on lines that broke no rule and a further one.
     fn test(&mut self, line: &CertLine) -> Verdict
-        ensures answer { (item : Instance) (lines : List CertLine) → IsPassing item self.old lines →
-            result ≡ fed_verdict item (lines ++ line.now ∷ []) }
-        ensures passing { (item : Instance) (lines : List CertLine) → IsPassing item self.old lines →
-            lines_breach item (lines ++ line.now ∷ []) ≡ None → IsPassing item self.new (lines ++ line.now ∷ []) }
+        ensures answer { (instance : Instance) (lines : List CertLine) → IsPassing instance self.old lines →
+            result ≡ fed_verdict instance (lines ++ line.now ∷ []) }
+        ensures passing { (instance : Instance) (lines : List CertLine) → IsPassing instance self.old lines →
+            lines_breach instance (lines ++ line.now ∷ []) ≡ None → IsPassing instance self.new (lines ++ line.now ∷ []) }
     {
         let Some(next) = self.place.after(line) else {
             return self.rejection(1);
@@ -85,10 +84,10 @@ impl<'a> Check<'a> {
 
     /// Takes the next line: the verdict on the lines so far. Once one is rejected, each later answer is the same.
     pub fn feed(&mut self, line: &CertLine) -> Verdict
-        ensures stands { (item : Instance) (lines : List CertLine) → IsCheckOf item self.old lines →
-            IsCheckOf item self.new (lines ++ line.now ∷ []) }
-        ensures answer { (item : Instance) (lines : List CertLine) → IsCheckOf item self.old lines →
-            result ≡ fed_verdict item (lines ++ line.now ∷ []) }
+        ensures stands { (instance : Instance) (lines : List CertLine) → IsCheckOf instance self.old lines →
+            IsCheckOf instance self.new (lines ++ line.now ∷ []) }
+        ensures answer { (instance : Instance) (lines : List CertLine) → IsCheckOf instance self.old lines →
+            result ≡ fed_verdict instance (lines ++ line.now ∷ []) }
     {
         if self.verdict.is_rejected() {
             return self.verdict;
@@ -100,7 +99,7 @@ impl<'a> Check<'a> {
 
     /// The verdict where no more lines come.
     pub fn end(&self) -> Verdict
-        ensures { (item : Instance) (lines : List CertLine) → IsCheckOf item self.now lines → result ≡ end_verdict item lines }
+        ensures { (instance : Instance) (lines : List CertLine) → IsCheckOf instance self.now lines → result ≡ end_verdict instance lines }
     {
         match self.verdict {
             Verdict::Going => self.rejection(1),

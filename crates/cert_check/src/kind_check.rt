@@ -1,53 +1,61 @@
-// The rules of the kinds of instance.
-ghost use Rattle.std.specs.Prelude.{◌≡◌, List, [], ◌∷◌, ◌++◌, length, true, Some};
-ghost use Rattle.decision_model.specs.declared.instance.Instance.{Instance};
+// The rules of the instance's kind.
+ghost use Rattle.std.specs.Prelude.{◌≡◌, [], length};
 ghost use Rattle.decision_model.specs.Valid.{IsValid};
-ghost use Rattle.value_cert.specs.Grammar.{has_numbers, step_of, place_after};
-ghost use Rattle.value_cert.specs.declared.line.CertLine.{CertLine};
-ghost use Rattle.value_cert.specs.declared.place.Place.{Place};
-ghost use Rattle.cert_check.specs.Kinds.{IsChecked, IsKindCheckOf, AnswersKind};
 ghost use Rattle.cert_check.specs.Tables.{cell_count};
 
+use crate::kind_rules::KindRules;
+use crate::later::LaterRules;
 use crate::lots::LotsCheck;
 use crate::news::NewsCheck;
 use decision_model::Instance;
 use value_cert::CertLine;
 
-/// What the rules of a kind need to know of the lines so far.
+/// The rules of one kind.
 #[derive(Drop)]
 pub(crate) enum KindCheck<'a> {
     News(NewsCheck<'a>),
     Lots(LotsCheck<'a>),
+    Later(LaterRules),
+}
+
+// An answer by the rules of whichever kind.
+macro_rules! of_kind {
+    ($check:expr, $rules:ident => $answer:expr) => {
+        match $check {
+            KindCheck::News($rules) => $answer,
+            KindCheck::Lots($rules) => $answer,
+            KindCheck::Later($rules) => $answer,
+        }
+    };
 }
 
 impl<'a> KindCheck<'a> {
-    /// The rules of the instance's kind, behind no line. Those of the newsvendor need no tables.
+    ghost use Rattle.cert_check.specs.Kinds.{KnowsKind};
+
+    /// The rules of the instance's kind, behind no line. No kind needs the sums so far.
     pub(crate) fn new(
-        item: &'a Instance,
+        instance: &'a Instance,
         cells: &'a mut [i128],
         _sums: &'a mut [u128],
     ) -> KindCheck<'a>
-        requires valid { IsValid item.now }
-        requires checked { IsChecked item.now }
-        requires cells { length cells.old ≡ cell_count item.now }
-        ensures { IsKindCheckOf item.now result [] }
+        requires valid { IsValid instance.now }
+        requires cells { length cells.old ≡ cell_count instance.now }
+        ensures { KnowsKind result instance.now [] }
     {
-        match item {
-            Instance::News(item) => KindCheck::News(NewsCheck::new(item)),
-            Instance::Lots(item) => KindCheck::Lots(LotsCheck::new(item, cells)),
-            _ => unreachable!(),
+        match instance {
+            Instance::News(newsvendor) => KindCheck::News(NewsCheck::new(newsvendor)),
+            Instance::Lots(lots) => KindCheck::Lots(LotsCheck::new(lots, cells)),
+            _ => KindCheck::Later(LaterRules),
         }
     }
+}
 
-    /// Takes a line that may stand behind those so far, which broke no rule: the least rule from 2 on that it breaks.
-    pub(crate) fn feed(&mut self, line: &CertLine) -> Option<u32>
-        requires { has_numbers line.now ≡ true }
-        ensures { (item : Instance) (before : List CertLine) (at next : Place) → IsKindCheckOf item self.old before →
-            place_after before ≡ Some at → step_of at line.now ≡ Some next → AnswersKind item before line.now self.new result }
-    {
-        match self {
-            KindCheck::News(check) => check.feed(line),
-            KindCheck::Lots(check) => check.feed(line),
-        }
+impl<'a> KindRules for KindCheck<'a> {
+    ghost use Rattle.cert_check.specs.Kinds.{KnowsKind};
+
+    ghost knows = { KnowsKind };
+
+    fn feed(&mut self, line: &CertLine) -> Option<u32> {
+        of_kind!(self, rules => rules.feed(line))
     }
 }

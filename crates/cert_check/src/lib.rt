@@ -4,6 +4,8 @@
 
 mod check;
 mod kind_check;
+mod kind_rules;
+mod later;
 #[cfg(test)]
 mod lot_tests;
 mod lots;

@@ -29,22 +29,22 @@ fn are_within(amounts: &[u64], periods: usize, greatest: u64) -> bool
     amounts.iter().all(|amount| *amount <= greatest)
 }
 
-fn is_readable(item: &LotSize) -> bool
-    ensures { IsTrue result → IsReadableLots item.now }
+fn is_readable(lots: &LotSize) -> bool
+    ensures { IsTrue result → IsReadableLots lots.now }
 {
-    let periods = item.demand.as_slice().len();
+    let periods = lots.demand.as_slice().len();
     if periods < 1 || periods > 2000 {
         return false;
     }
-    let demand = are_within(item.demand.as_slice(), periods, 1_000_000);
-    let setup = are_within(item.setup.as_slice(), periods, 1_000_000_000_000);
-    let unit = are_within(item.unit.as_slice(), periods, 1_000_000);
-    let holding = are_within(item.holding.as_slice(), periods, 1_000_000);
+    let demand = are_within(lots.demand.as_slice(), periods, 1_000_000);
+    let setup = are_within(lots.setup.as_slice(), periods, 1_000_000_000_000);
+    let unit = are_within(lots.unit.as_slice(), periods, 1_000_000);
+    let holding = are_within(lots.holding.as_slice(), periods, 1_000_000);
     demand && setup && unit && holding
 }
 
-fn amounts(alloc: Global, items: &[u64]) -> Result<Amounts, AllocError> {
-    Ok(Amounts::new(items.to_vec(alloc)?))
+fn amounts(alloc: Global, amounts: &[u64]) -> Result<Amounts, AllocError> {
+    Ok(Amounts::new(amounts.to_vec(alloc)?))
 }
 
 fn lot_size(alloc: Global, lots: &Lots) -> Result<LotSize, AllocError> {
@@ -57,10 +57,10 @@ fn lot_size(alloc: Global, lots: &Lots) -> Result<LotSize, AllocError> {
 }
 
 fn verdict_on(rt: &impl Abort, alloc: Global, lots: &Lots, text: &str) -> Result<Verdict, Fail> {
-    let item = lot_size(alloc, lots)?;
-    assert!(rt; is_readable(&item));
-    assert!(rt; speculative_period(&item).is_none());
-    Ok(verdict(alloc, &Instance::Lots(item), text.as_bytes())?)
+    let lots = lot_size(alloc, lots)?;
+    assert!(rt; is_readable(&lots));
+    assert!(rt; speculative_period(&lots).is_none());
+    Ok(verdict(alloc, &Instance::Lots(lots), text.as_bytes())?)
 }
 
 #[test]
@@ -195,8 +195,8 @@ fn damaged_texts(rt: HostRuntime) -> Result<(), Fail> {
         holding: &[2, 2, 2, 2],
     };
     for (text, line, rule) in rows {
-        let told = Verdict::Rejected { line, rule };
-        assert_eq!(rt; verdict_on(&rt, rt.alloc(), &lots, text)?, told, "{text}");
+        let answer = Verdict::Rejected { line, rule };
+        assert_eq!(rt; verdict_on(&rt, rt.alloc(), &lots, text)?, answer, "{text}");
     }
     Ok(())
 }
@@ -204,23 +204,31 @@ fn damaged_texts(rt: HostRuntime) -> Result<(), Fail> {
 // Where a period has no demand, its dual is 0.
 #[test]
 fn periods_without_demand(rt: HostRuntime) -> Result<(), Fail> {
-    let lots = Lots {
-        demand: &[0, 5],
-        setup: &[100, 10],
-        unit: &[0, 0],
-        holding: &[1, 1],
-    };
-    let text = "certificate 1 lots\no 5 95\no 0 10\ncost 105\nend\n";
-    let told = Verdict::Rejected { line: 2, rule: 4 };
-    assert_eq!(rt; verdict_on(&rt, rt.alloc(), &lots, text)?, told);
-    let lots = Lots {
-        demand: &[5, 0],
-        setup: &[10, 10],
-        unit: &[0, 0],
-        holding: &[1, 1],
-    };
-    let text = "certificate 1 lots\no 5 10\no 0 1\ncost 11\nend\n";
-    let told = Verdict::Rejected { line: 3, rule: 4 };
-    assert_eq!(rt; verdict_on(&rt, rt.alloc(), &lots, text)?, told);
+    let rows = [
+        (
+            Lots {
+                demand: &[0, 5],
+                setup: &[100, 10],
+                unit: &[0, 0],
+                holding: &[1, 1],
+            },
+            "certificate 1 lots\no 5 95\no 0 10\ncost 105\nend\n",
+            2,
+        ),
+        (
+            Lots {
+                demand: &[5, 0],
+                setup: &[10, 10],
+                unit: &[0, 0],
+                holding: &[1, 1],
+            },
+            "certificate 1 lots\no 5 10\no 0 1\ncost 11\nend\n",
+            3,
+        ),
+    ];
+    for (lots, text, line) in rows {
+        let answer = Verdict::Rejected { line, rule: 4 };
+        assert_eq!(rt; verdict_on(&rt, rt.alloc(), &lots, text)?, answer, "{text}");
+    }
     Ok(())
 }

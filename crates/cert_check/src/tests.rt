@@ -3,7 +3,6 @@ ghost use Rattle.std.specs.Prelude.{ℕ, IfOk, IfSome};
 ghost use Rattle.decision_model.specs.DemandLaws.{AreDemandLaws};
 ghost use Rattle.decision_model.specs.Finite.{IsReadableFinite, IsMostOrder};
 ghost use Rattle.decision_model.specs.Valid.{IsValid};
-ghost use Rattle.cert_check.specs.Kinds.{IsChecked};
 
 use crate::{Check, TextCheck, Verdict, cells_of, sums_of, verdict};
 use decision_model::{Finite, Instance, Kind, Laws, grid_fits, width_ok};
@@ -17,8 +16,7 @@ use value_cert::CertLine::{Cost, End, Head, Level, Order};
 
 // Demand is 0, 1, 2 or 3 with equal weights. Level 2 is the least of least cost, which is 6 over 4.
 fn bookshop(alloc: Global) -> Result<Instance, Fail>
-    ensures valid { IfOk result IsValid }
-    ensures checked { IfOk result IsChecked }
+    ensures { IfOk result IsValid }
 {
     let law = Law::from_points(alloc, &[(0, 1), (1, 1), (2, 1), (3, 1)])?;
     Ok(Instance::News(Newsvendor {
@@ -33,62 +31,38 @@ fn rejected(line: u64, rule: u32) -> Verdict {
 }
 
 fn verdict_on(rt: &HostRuntime, text: &str) -> Result<Verdict, Fail> {
-    let item = bookshop(rt.alloc())?;
-    Ok(verdict(rt.alloc(), &item, text.as_bytes())?)
-}
-
-// A text, and the verdict on it.
-#[derive(Clone, Copy)]
-struct Judged<'a> {
-    text: &'a str,
-    verdict: Verdict,
+    let shop = bookshop(rt.alloc())?;
+    Ok(verdict(rt.alloc(), &shop, text.as_bytes())?)
 }
 
 #[test]
-fn texts(rt: HostRuntime) -> Result<(), Fail> {
-    let rows = [
-        Judged {
-            text: "certificate 1 newsvendor\nq 2\ncost 6\nend\n",
-            verdict: Verdict::Accepted,
-        },
-        // The wrong level, or the wrong cost.
-        Judged {
-            text: "certificate 1 newsvendor\nq 3\ncost 6\nend\n",
-            verdict: rejected(2, 4),
-        },
-        Judged {
-            text: "certificate 1 newsvendor\nq 1\ncost 6\nend\n",
-            verdict: rejected(2, 3),
-        },
-        Judged {
-            text: "certificate 1 newsvendor\nq 2\ncost 7\nend\n",
-            verdict: rejected(3, 5),
-        },
-        Judged {
-            text: "certificate 1 newsvendor\nq 2\ncost 5\nend\n",
-            verdict: rejected(3, 5),
-        },
-        // The greatest number that may stand there, and one above it.
-        Judged {
-            text: "certificate 1 newsvendor\nq 1329227995784915872903807060280344576\n",
-            verdict: rejected(2, 4),
-        },
-        Judged {
-            text: "certificate 1 newsvendor\nq 1329227995784915872903807060280344577\n",
-            verdict: rejected(2, 1),
-        },
-    ];
-    for row in &rows {
-        assert_eq!(rt; verdict_on(&rt, row.text)?, row.verdict, "{}", row.text);
-    }
+fn whole_text(rt: HostRuntime) -> Result<(), Fail> {
+    let text = "certificate 1 newsvendor\nq 2\ncost 6\nend\n";
+    assert_eq!(rt; verdict_on(&rt, text)?, Verdict::Accepted);
     Ok(())
 }
 
 #[test]
 fn damaged_texts(rt: HostRuntime) -> Result<(), Fail> {
     let rows = [
+        // The wrong level, or the wrong cost.
+        ("certificate 1 newsvendor\nq 3\ncost 6\nend\n", 2, 4),
+        ("certificate 1 newsvendor\nq 1\ncost 6\nend\n", 2, 3),
+        ("certificate 1 newsvendor\nq 2\ncost 7\nend\n", 3, 5),
+        ("certificate 1 newsvendor\nq 2\ncost 5\nend\n", 3, 5),
+        // The greatest number that may stand there, and one above it.
+        (
+            "certificate 1 newsvendor\nq 1329227995784915872903807060280344576\n",
+            2,
+            4,
+        ),
+        (
+            "certificate 1 newsvendor\nq 1329227995784915872903807060280344577\n",
+            2,
+            1,
+        ),
+        // No text, another kind's certificate, and a kind that has none.
         ("", 1, 1),
-        // Another kind's certificate, and a kind that has none.
         ("certificate 1 lots\no 2 2\ncost 6\nend\n", 1, 2),
         ("certificate 1 network\nq 2\ncost 6\nend\n", 1, 1),
         ("certificate 2 newsvendor 1 1\nq 2\ncost 6\nend\n", 1, 1),
@@ -123,10 +97,10 @@ struct Answers {
 }
 
 fn feed_all(rt: &HostRuntime, lines: &[CertLine]) -> Result<Answers, Fail> {
-    let item = bookshop(rt.alloc())?;
-    let mut cells = vec![in rt.alloc(); 0i128; cells_of(&item)]?;
-    let mut sums = vec![in rt.alloc(); 0u128; sums_of(&item)]?;
-    let mut check = Check::new(&item, &mut cells, &mut sums);
+    let shop = bookshop(rt.alloc())?;
+    let mut cells = vec![in rt.alloc(); 0i128; cells_of(&shop)]?;
+    let mut sums = vec![in rt.alloc(); 0u128; sums_of(&shop)]?;
+    let mut check = Check::new(&shop, &mut cells, &mut sums);
     let mut last = Verdict::Going;
     for line in lines {
         last = check.feed(line);
@@ -196,11 +170,11 @@ fn lines(rt: HostRuntime) -> Result<(), Fail> {
         },
     ];
     for row in &rows {
-        let told = Answers {
+        let answers = Answers {
             last: row.last,
             end: row.end,
         };
-        assert_eq!(rt; feed_all(&rt, row.lines)?, told);
+        assert_eq!(rt; feed_all(&rt, row.lines)?, answers);
     }
     Ok(())
 }
@@ -218,12 +192,12 @@ fn pieces(rt: HostRuntime) -> Result<(), Fail> {
         ("\n", rejected(5, 1)),
         ("certificate 1 newsvendor\n", rejected(5, 1)),
     ];
-    let item = bookshop(rt.alloc())?;
-    let mut cells = vec![in rt.alloc(); 0i128; cells_of(&item)]?;
-    let mut sums = vec![in rt.alloc(); 0u128; sums_of(&item)]?;
-    let mut check = TextCheck::new(&item, &mut cells, &mut sums);
-    for (piece, told) in rows {
-        assert_eq!(rt; check.push(piece.as_bytes()), told, "{piece}");
+    let shop = bookshop(rt.alloc())?;
+    let mut cells = vec![in rt.alloc(); 0i128; cells_of(&shop)]?;
+    let mut sums = vec![in rt.alloc(); 0u128; sums_of(&shop)]?;
+    let mut check = TextCheck::new(&shop, &mut cells, &mut sums);
+    for (piece, answer) in rows {
+        assert_eq!(rt; check.push(piece.as_bytes()), answer, "{piece}");
     }
     assert_eq!(rt; check.end(), rejected(5, 1));
     Ok(())
@@ -264,22 +238,45 @@ fn two_periods(alloc: Global, most: Option<u64>) -> Result<Finite, Fail>
 }
 
 // Whether a check needs that many cells and sums.
-fn needs(rt: &impl Abort, item: Finite, cells: usize, sums: usize) -> bool
-    requires { IsReadableFinite item }
+fn needs(rt: &impl Abort, finite: Finite, cells: usize, sums: usize) -> bool
+    requires { IsReadableFinite finite }
 {
-    let item = Instance::Finite(item);
-    assert!(rt; grid_fits(&item));
-    assert!(rt; width_ok(&item));
-    cells_of(&item) == cells && sums_of(&item) == sums
+    let instance = Instance::Finite(finite);
+    assert!(rt; grid_fits(&instance));
+    assert!(rt; width_ok(&instance));
+    cells_of(&instance) == cells && sums_of(&instance) == sums
 }
 
 #[test]
 fn rooms(rt: HostRuntime) -> Result<(), Fail> {
-    let item = two_periods(rt.alloc(), None)?;
-    assert!(rt; needs(&rt, item, 24, 14));
-    let item = two_periods(rt.alloc(), Some(4))?;
-    assert!(rt; needs(&rt, item, 32, 14));
-    let item = two_periods(rt.alloc(), Some(40))?;
-    assert!(rt; needs(&rt, item, 48, 14));
+    for (most, cells) in [(None, 24), (Some(4), 32), (Some(40), 48)] {
+        let finite = two_periods(rt.alloc(), most)?;
+        assert!(rt; needs(&rt, finite, cells, 14));
+    }
+    Ok(())
+}
+
+fn verdict_on_periods(rt: &impl Abort, alloc: Global, text: &str) -> Result<Verdict, Fail> {
+    let instance = Instance::Finite(two_periods(alloc, None)?);
+    assert!(rt; grid_fits(&instance));
+    assert!(rt; width_ok(&instance));
+    Ok(verdict(alloc, &instance, text.as_bytes())?)
+}
+
+// No certificate is for a kind whose solver isn't built.
+#[test]
+fn later_kinds(rt: HostRuntime) -> Result<(), Fail> {
+    let rows = [
+        ("certificate 1 finite\n", 2),
+        ("certificate 1 newsvendor\n", 2),
+        ("x\n", 1),
+    ];
+    for (text, rule) in rows {
+        assert_eq!(rt;
+            verdict_on_periods(&rt, rt.alloc(), text)?,
+            rejected(1, rule),
+            "{text}"
+        );
+    }
     Ok(())
 }

@@ -3,7 +3,6 @@ ghost use Rattle.std.specs.Prelude.{◌≡◌, ◌<◌, ◌≤◌, List, ℕ, []
 ghost use Rattle.decision_model.specs.declared.instance.Instance.{Instance};
 ghost use Rattle.decision_model.specs.Valid.{IsValid};
 ghost use Rattle.value_cert.specs.Breaches.{text_breach};
-ghost use Rattle.cert_check.specs.Kinds.{IsChecked};
 ghost use Rattle.cert_check.specs.Meaning.{IsCertified, IsOwnText};
 ghost use Rattle.cert_check.specs.Tables.{cell_count, sum_count};
 ghost use Rattle.cert_check.specs.Verdicts.{verdict_of, is_rejection};
@@ -25,17 +24,16 @@ pub struct TextCheck<'a> {
 
 impl<'a> TextCheck<'a> {
     /// A check of a text for the instance, of which nothing came. It works in the two tables, whose lengths are
-    /// `cells_of(item)` and `sums_of(item)`, whatever they hold.
-    pub fn new(item: &'a Instance, cells: &'a mut [i128], sums: &'a mut [u128]) -> TextCheck<'a>
-        requires valid { IsValid item.now }
-        requires checked { IsChecked item.now }
-        requires cells { length cells.old ≡ cell_count item.now }
-        requires sums { length sums.old ≡ sum_count item.now }
-        ensures { IsTextCheckOf item.now result [] }
+    /// `cells_of(instance)` and `sums_of(instance)`, whatever they hold.
+    pub fn new(instance: &'a Instance, cells: &'a mut [i128], sums: &'a mut [u128]) -> TextCheck<'a>
+        requires valid { IsValid instance.now }
+        requires cells { length cells.old ≡ cell_count instance.now }
+        requires sums { length sums.old ≡ sum_count instance.now }
+        ensures { IsTextCheckOf instance.now result [] }
     {
         TextCheck {
             reader: CertReader::new(),
-            check: Check::new(item, cells, sums),
+            check: Check::new(instance, cells, sums),
             verdict: Verdict::Going,
         }
     }
@@ -56,8 +54,8 @@ impl<'a> TextCheck<'a> {
         requires { 0 < length piece.now }
         ensures within { result ≤ length piece.now }
         ensures some { 0 < result }
-        ensures stands { (item : Instance) (bytes : List ℕ) → IsTextCheckOf item self.old bytes →
-            IsTextCheckOf item self.new (bytes ++ take result piece.now) }
+        ensures stands { (instance : Instance) (bytes : List ℕ) → IsTextCheckOf instance self.old bytes →
+            IsTextCheckOf instance self.new (bytes ++ take result piece.now) }
         ensures kept { is_rejection (last_verdict self.old) ≡ true → last_verdict self.new ≡ last_verdict self.old }
     {
         if self.verdict.is_rejected() {
@@ -78,10 +76,10 @@ impl<'a> TextCheck<'a> {
     /// Takes the next bytes: the verdict on the bytes so far. It is `Rejected` as soon as a line that breaks a rule has
     /// ended or has come to 128 bytes, and then ever after; `Accepted` where the bytes so far are a whole certificate.
     pub fn push(&mut self, piece: &[u8]) -> Verdict
-        ensures stands { (item : Instance) (bytes : List ℕ) → IsTextCheckOf item self.old bytes →
-            IsTextCheckOf item self.new (bytes ++ piece.now) }
-        ensures answer { (item : Instance) (bytes : List ℕ) → IsTextCheckOf item self.old bytes →
-            Tells item (bytes ++ piece.now) result }
+        ensures stands { (instance : Instance) (bytes : List ℕ) → IsTextCheckOf instance self.old bytes →
+            IsTextCheckOf instance self.new (bytes ++ piece.now) }
+        ensures answer { (instance : Instance) (bytes : List ℕ) → IsTextCheckOf instance self.old bytes →
+            Tells instance (bytes ++ piece.now) result }
         // A rejection is the answer to whatever comes behind it.
         ensures last { result ≡ last_verdict self.new }
         ensures kept { is_rejection (last_verdict self.old) ≡ true → result ≡ last_verdict self.old }
@@ -96,14 +94,14 @@ impl<'a> TextCheck<'a> {
 
     /// The verdict on the bytes so far where no more come.
     pub fn end(&self) -> Verdict
-        ensures answer { (item : Instance) (bytes : List ℕ) → IsTextCheckOf item self.now bytes →
-            result ≡ verdict_of (text_breach item bytes) }
+        ensures answer { (instance : Instance) (bytes : List ℕ) → IsTextCheckOf instance self.now bytes →
+            result ≡ verdict_of (text_breach instance bytes) }
         // Whoever wrote what is accepted.
-        ensures accepted { (item : Instance) (bytes : List ℕ) → IsTextCheckOf item self.now bytes →
-            result ≡ Verdict.Accepted → IsCertified item bytes }
+        ensures accepted { (instance : Instance) (bytes : List ℕ) → IsTextCheckOf instance self.now bytes →
+            result ≡ Verdict.Accepted → IsCertified instance bytes }
         // What the solver writes is.
-        ensures own { (item : Instance) (bytes : List ℕ) → IsTextCheckOf item self.now bytes →
-            IsOwnText item bytes → result ≡ Verdict.Accepted }
+        ensures own { (instance : Instance) (bytes : List ℕ) → IsTextCheckOf instance self.now bytes →
+            IsOwnText instance bytes → result ≡ Verdict.Accepted }
     {
         match self.verdict {
             Verdict::Going => self.check.rejection(1),

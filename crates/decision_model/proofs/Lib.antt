@@ -2,3 +2,9 @@ pub mod Greatest
 pub mod Searched
 pub mod Narrow
 pub mod RateSums
+pub mod LeastPairs
+pub mod BlockLeasts
+pub mod WindowSteps
+pub mod WalkSteps
+pub mod WalkBounds
+pub mod WalkCasts

@@ -3,9 +3,9 @@ use Rattle.std.proofs.Common.{ℕ, ◌+◌, ◌-◌, ◌*◌, ◌^◌, ◌≤◌
 use Rattle.std.proofs.lemmas.Int.{ints}
 use Rattle.std.proofs.Math.Nat.{one-le-pow}
 use Rattle.std.proofs.lemmas.Nat.{mul-le}
-use Rattle.decision_model.specs.declared.instance.Finite.{Finite}
-use Rattle.decision_model.specs.declared.instance.Average.{Average}
-use Rattle.decision_model.specs.declared.instance.Serial.{Serial}
+use Rattle.decision_model.specs.declared.finite.Finite.{Finite}
+use Rattle.decision_model.specs.declared.average.Average.{Average}
+use Rattle.decision_model.specs.declared.serial.Serial.{Serial}
 use Rattle.decision_model.specs.Rates.{IsDiscount}
 use Rattle.decision_model.specs.Positions.{above_zero}
 use Rattle.decision_model.specs.DemandLaws.{common_total}
@@ -30,86 +30,86 @@ factor_within front factor back some_front some_back =
     omega (arith, mul-le 1 factor front factor some_front (omega arith), mul-le (front * factor) 1 (front * factor) back (omega arith) some_back)
 
 -- ---- the finite kind
-finite_cost_bound_some : (item : Finite) → 1 ≤ finite_cost_bound item
+finite_cost_bound_some : (finite : Finite) → 1 ≤ finite_cost_bound finite
 unfolding finite_cost_bound
-finite_cost_bound_some item = omega arith
+finite_cost_bound_some finite = omega arith
 
 -- the weights of all demands that the costs look at
-pub finite_weights_fit : (item : Finite) → IsReadableFinite item → finite_width item ≤ 2 ^ 120 → common_total item.laws ^ (item.periods + item.lead) ≤ 2 ^ 120
+pub finite_weights_fit : (finite : Finite) → IsReadableFinite finite → finite_width finite ≤ 2 ^ 120 → common_total finite.laws ^ (finite.periods + finite.lead) ≤ 2 ^ 120
 unfolding finite_width
-finite_weights_fit item readable fits =
-    omega (arith, fits, factor_within (item.periods * finite_cost_bound item) (common_total item.laws ^ (item.periods + item.lead)) (item.discount_den ^ item.periods) (mul_some _ _ readable.periods.least (finite_cost_bound_some item)) (pow_some item.discount_den item.periods (discount_some _ _ readable.discount)))
+finite_weights_fit finite readable fits =
+    omega (arith, fits, factor_within (finite.periods * finite_cost_bound finite) (common_total finite.laws ^ (finite.periods + finite.lead)) (finite.discount_den ^ finite.periods) (mul_some _ _ readable.periods.least (finite_cost_bound_some finite)) (pow_some finite.discount_den finite.periods (discount_some _ _ readable.discount)))
 
 -- the discounts of all periods
-pub finite_discounts_fit : (item : Finite) → IsReadableFinite item → finite_width item ≤ 2 ^ 120 → item.discount_den ^ item.periods ≤ 2 ^ 120
+pub finite_discounts_fit : (finite : Finite) → IsReadableFinite finite → finite_width finite ≤ 2 ^ 120 → finite.discount_den ^ finite.periods ≤ 2 ^ 120
 unfolding finite_width
-finite_discounts_fit item readable fits =
-    let weights_some = pow_some (common_total item.laws) (item.periods + item.lead) (common_total_some item.laws (item.periods + item.lead) (omega (arith, readable.periods.least)) readable.laws) in
-    omega (arith, fits, factor_within (item.periods * finite_cost_bound item * common_total item.laws ^ (item.periods + item.lead)) (item.discount_den ^ item.periods) 1 (mul_some _ _ (mul_some _ _ readable.periods.least (finite_cost_bound_some item)) weights_some) (omega arith))
+finite_discounts_fit finite readable fits =
+    let weights_some = pow_some (common_total finite.laws) (finite.periods + finite.lead) (common_total_some finite.laws (finite.periods + finite.lead) (omega (arith, readable.periods.least)) readable.laws) in
+    omega (arith, fits, factor_within (finite.periods * finite_cost_bound finite * common_total finite.laws ^ (finite.periods + finite.lead)) (finite.discount_den ^ finite.periods) 1 (mul_some _ _ (mul_some _ _ readable.periods.least (finite_cost_bound_some finite)) weights_some) (omega arith))
 
 -- ---- the average kind
-average_cost_some : (item : Average) → 1 ≤ item.setup + average_cost_bound item
+average_cost_some : (average : Average) → 1 ≤ average.setup + average_cost_bound average
 unfolding average_cost_bound
-average_cost_some item = omega arith
+average_cost_some average = omega arith
 
 above_zero_some : (z : ℤ) → pos 1 ≤ℤ z → 1 ≤ above_zero z
 above_zero_some (pos n) le = omega (arith, ints)
 above_zero_some (negsuc n) le = absurd (omega (arith, ints))
 
 -- the grid has a position
-pub average_positions_some : (item : Average) → IsReadableAverage item → 1 ≤ average_positions item
+pub average_positions_some : (average : Average) → IsReadableAverage average → 1 ≤ average_positions average
 unfolding average_positions
-average_positions_some item readable = above_zero_some (item.cap -ℤ item.floor +ℤ pos 1) (omega (arith, ints, readable.floor_below))
+average_positions_some average readable = above_zero_some (average.cap -ℤ average.floor +ℤ pos 1) (omega (arith, ints, readable.floor_below))
 
-average_front_some : (item : Average) → IsReadableAverage item → 1 ≤ 2 * average_positions item ^ 2 * (item.setup + average_cost_bound item)
-average_front_some item readable =
-    mul_some _ _ (mul_some 2 _ (omega arith) (pow_some _ 2 (average_positions_some item readable))) (average_cost_some item)
+average_front_some : (average : Average) → IsReadableAverage average → 1 ≤ 2 * average_positions average ^ 2 * (average.setup + average_cost_bound average)
+average_front_some average readable =
+    mul_some _ _ (mul_some 2 _ (omega arith) (pow_some _ 2 (average_positions_some average readable))) (average_cost_some average)
 
 -- the weights of all demands that two costs look at
-pub average_weights_fit : (item : Average) → IsReadableAverage item → HasDemand item.law → average_width item ≤ 2 ^ 120 → sum item.law ^ (2 * item.lead + 2) ≤ 2 ^ 120
+pub average_weights_fit : (average : Average) → IsReadableAverage average → HasDemand average.law → average_width average ≤ 2 ^ 120 → sum average.law ^ (2 * average.lead + 2) ≤ 2 ^ 120
 unfolding average_width
-average_weights_fit item readable some fits =
-    omega (arith, fits, factor_within (2 * average_positions item ^ 2 * (item.setup + average_cost_bound item)) (sum item.law ^ (2 * item.lead + 2)) ((sum item.law - slice_index item.law 0) ^ (2 * average_positions item - 2)) (average_front_some item readable) (pow_some _ (2 * average_positions item - 2) (omega (arith, some))))
+average_weights_fit average readable some fits =
+    omega (arith, fits, factor_within (2 * average_positions average ^ 2 * (average.setup + average_cost_bound average)) (sum average.law ^ (2 * average.lead + 2)) ((sum average.law - slice_index average.law 0) ^ (2 * average_positions average - 2)) (average_front_some average readable) (pow_some _ (2 * average_positions average - 2) (omega (arith, some))))
 
 -- the weights of the demands above 0, at all positions
-pub average_moving_fit : (item : Average) → IsReadableAverage item → average_width item ≤ 2 ^ 120 → (sum item.law - slice_index item.law 0) ^ (2 * average_positions item - 2) ≤ 2 ^ 120
+pub average_moving_fit : (average : Average) → IsReadableAverage average → average_width average ≤ 2 ^ 120 → (sum average.law - slice_index average.law 0) ^ (2 * average_positions average - 2) ≤ 2 ^ 120
 unfolding average_width
-average_moving_fit item readable fits =
-    omega (arith, fits, factor_within (2 * average_positions item ^ 2 * (item.setup + average_cost_bound item) * sum item.law ^ (2 * item.lead + 2)) ((sum item.law - slice_index item.law 0) ^ (2 * average_positions item - 2)) 1 (mul_some _ _ (average_front_some item readable) (pow_some _ (2 * item.lead + 2) (sum_demand_law_some item.law readable.law))) (omega arith))
+average_moving_fit average readable fits =
+    omega (arith, fits, factor_within (2 * average_positions average ^ 2 * (average.setup + average_cost_bound average) * sum average.law ^ (2 * average.lead + 2)) ((sum average.law - slice_index average.law 0) ^ (2 * average_positions average - 2)) 1 (mul_some _ _ (average_front_some average readable) (pow_some _ (2 * average.lead + 2) (sum_demand_law_some average.law readable.law))) (omega arith))
 
 -- ---- the serial kind
-serial_cost_bound_some : (item : Serial) → 1 ≤ serial_cost_bound item
+serial_cost_bound_some : (serial : Serial) → 1 ≤ serial_cost_bound serial
 unfolding serial_cost_bound
-serial_cost_bound_some item = omega arith
+serial_cost_bound_some serial = omega arith
 
-serial_weights_some : (item : Serial) → IsReadableSerial item → 1 ≤ common_total item.laws ^ item.periods
-serial_weights_some item readable = pow_some (common_total item.laws) item.periods (common_total_some item.laws item.periods readable.periods.least readable.laws)
+serial_weights_some : (serial : Serial) → IsReadableSerial serial → 1 ≤ common_total serial.laws ^ serial.periods
+serial_weights_some serial readable = pow_some (common_total serial.laws) serial.periods (common_total_some serial.laws serial.periods readable.periods.least readable.laws)
 
-serial_discounts_some : (item : Serial) → IsReadableSerial item → 1 ≤ item.discount_den ^ item.periods
-serial_discounts_some item readable = pow_some item.discount_den item.periods (discount_some _ _ readable.discount)
+serial_discounts_some : (serial : Serial) → IsReadableSerial serial → 1 ≤ serial.discount_den ^ serial.periods
+serial_discounts_some serial readable = pow_some serial.discount_den serial.periods (discount_some _ _ readable.discount)
 
-serial_parts_some : (item : Serial) → IsReadableSerial item → 1 ≤ (2 * item.periods) ^ length item.holding
-serial_parts_some item readable = pow_some (2 * item.periods) (length item.holding) (omega (arith, readable.periods.least))
+serial_parts_some : (serial : Serial) → IsReadableSerial serial → 1 ≤ (2 * serial.periods) ^ length serial.holding
+serial_parts_some serial readable = pow_some (2 * serial.periods) (length serial.holding) (omega (arith, readable.periods.least))
 
 -- twice the periods, for each echelon
-pub serial_parts_fit : (item : Serial) → IsReadableSerial item → serial_width item ≤ 2 ^ 120 → (2 * item.periods) ^ length item.holding ≤ 2 ^ 120
+pub serial_parts_fit : (serial : Serial) → IsReadableSerial serial → serial_width serial ≤ 2 ^ 120 → (2 * serial.periods) ^ length serial.holding ≤ 2 ^ 120
 unfolding serial_width
-serial_parts_fit item readable fits =
-    let parts = (2 * item.periods) ^ length item.holding in
-    let weights = common_total item.laws ^ item.periods in
-    let front = factor_within 1 parts (serial_cost_bound item) (omega arith) (serial_cost_bound_some item) in
-    let middle = factor_within 1 (parts * serial_cost_bound item) weights (omega arith) (serial_weights_some item readable) in
-    let whole = factor_within 1 (parts * serial_cost_bound item * weights) (item.discount_den ^ item.periods) (omega arith) (serial_discounts_some item readable) in
+serial_parts_fit serial readable fits =
+    let parts = (2 * serial.periods) ^ length serial.holding in
+    let weights = common_total serial.laws ^ serial.periods in
+    let front = factor_within 1 parts (serial_cost_bound serial) (omega arith) (serial_cost_bound_some serial) in
+    let middle = factor_within 1 (parts * serial_cost_bound serial) weights (omega arith) (serial_weights_some serial readable) in
+    let whole = factor_within 1 (parts * serial_cost_bound serial * weights) (serial.discount_den ^ serial.periods) (omega arith) (serial_discounts_some serial readable) in
     omega (arith, fits, front, middle, whole)
 
 -- the weights of all demands
-pub serial_weights_fit : (item : Serial) → IsReadableSerial item → serial_width item ≤ 2 ^ 120 → common_total item.laws ^ item.periods ≤ 2 ^ 120
+pub serial_weights_fit : (serial : Serial) → IsReadableSerial serial → serial_width serial ≤ 2 ^ 120 → common_total serial.laws ^ serial.periods ≤ 2 ^ 120
 unfolding serial_width
-serial_weights_fit item readable fits =
-    omega (arith, fits, factor_within ((2 * item.periods) ^ length item.holding * serial_cost_bound item) (common_total item.laws ^ item.periods) (item.discount_den ^ item.periods) (mul_some _ _ (serial_parts_some item readable) (serial_cost_bound_some item)) (serial_discounts_some item readable))
+serial_weights_fit serial readable fits =
+    omega (arith, fits, factor_within ((2 * serial.periods) ^ length serial.holding * serial_cost_bound serial) (common_total serial.laws ^ serial.periods) (serial.discount_den ^ serial.periods) (mul_some _ _ (serial_parts_some serial readable) (serial_cost_bound_some serial)) (serial_discounts_some serial readable))
 
 -- the discounts of all periods
-pub serial_discounts_fit : (item : Serial) → IsReadableSerial item → serial_width item ≤ 2 ^ 120 → item.discount_den ^ item.periods ≤ 2 ^ 120
+pub serial_discounts_fit : (serial : Serial) → IsReadableSerial serial → serial_width serial ≤ 2 ^ 120 → serial.discount_den ^ serial.periods ≤ 2 ^ 120
 unfolding serial_width
-serial_discounts_fit item readable fits =
-    omega (arith, fits, factor_within ((2 * item.periods) ^ length item.holding * serial_cost_bound item * common_total item.laws ^ item.periods) (item.discount_den ^ item.periods) 1 (mul_some _ _ (mul_some _ _ (serial_parts_some item readable) (serial_cost_bound_some item)) (serial_weights_some item readable)) (omega arith))
+serial_discounts_fit serial readable fits =
+    omega (arith, fits, factor_within ((2 * serial.periods) ^ length serial.holding * serial_cost_bound serial * common_total serial.laws ^ serial.periods) (serial.discount_den ^ serial.periods) 1 (mul_some _ _ (mul_some _ _ (serial_parts_some serial readable) (serial_cost_bound_some serial)) (serial_weights_some serial readable)) (omega arith))

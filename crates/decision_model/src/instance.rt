@@ -1,96 +1,15 @@
-// The instances, kind by kind.
-ghost use Rattle.std.specs.Prelude.{◌≡◌};
+// Instances of any kind.
+ghost use Rattle.std.specs.Prelude.{◌≡◌, ◌↔◌, IsTrue};
 ghost use Rattle.decision_model.specs.Kind.{kind_of};
+ghost use Rattle.decision_model.specs.Valid.{IsReadable, GridFits, grid_fits, IsRegular, WidthFits, width_fits};
 
+use crate::average::Average;
+use crate::finite::Finite;
 use crate::kinds::Kind;
-use crate::lists::{Amounts, Laws, Positions};
-use demand_law::Law;
+use crate::lots::LotSize;
+use crate::rules::KindRules;
+use crate::serial::Serial;
 use newsvendor::Newsvendor;
-
-/// Known demand that orders have to cover, after Wagner and Whitin (1958). All lists have one entry a period.
-#[derive(Drop)]
-pub struct LotSize {
-    /// Units demanded in each period.
-    pub demand: Amounts,
-    /// The cost of an order of any size in each period.
-    pub setup: Amounts,
-    /// The cost of each unit ordered in each period.
-    pub unit: Amounts,
-    /// The cost of each unit in stock at the end of each period.
-    pub holding: Amounts,
-}
-
-/// Uncertain demand over a finite horizon, with a setup cost and a lead time, after Scarf (1960).
-#[derive(Drop)]
-pub struct Finite {
-    pub periods: u32,
-    /// The periods that an order takes.
-    pub lead: u32,
-    /// The cost of an order of any size.
-    pub setup: u64,
-    /// The cost of each unit ordered.
-    pub unit: u64,
-    /// The cost of each unit that is left after a period's demand.
-    pub holding: u64,
-    /// The cost of each unit that lacks after a period's demand.
-    pub stockout: u64,
-    /// The cost of each unit of the position after the last period, where it is above 0.
-    pub end_holding: u64,
-    /// The cost of each unit that the position after the last period is below 0.
-    pub end_stockout: u64,
-    /// The factor on the cost of each later period is `discount_num / discount_den`.
-    pub discount_num: u32,
-    pub discount_den: u32,
-    /// One law that serves every period, or one each for `periods + lead` periods.
-    pub laws: Laws,
-    /// The greatest position to order up to.
-    pub cap: i64,
-    /// The position before the first order.
-    pub start: i64,
-    /// The greatest order of a period, if there is one.
-    pub most: Option<u64>,
-}
-
-/// Uncertain demand of one law in every period, at least average cost.
-#[derive(Drop)]
-pub struct Average {
-    /// The periods that an order takes.
-    pub lead: u32,
-    /// The cost of an order of any size.
-    pub setup: u64,
-    /// The cost of each unit that is left after a period's demand.
-    pub holding: u64,
-    /// The cost of each unit that lacks after a period's demand.
-    pub stockout: u64,
-    pub law: Law,
-    /// The least position to order up to.
-    pub floor: i64,
-    /// The greatest position to order up to.
-    pub cap: i64,
-    /// Whether the policy is told as a reorder point with a lot.
-    pub lots: bool,
-}
-
-/// A serial system after Clark and Scarf (1960): echelon 1 faces demand, the last one orders from outside.
-#[derive(Drop)]
-pub struct Serial {
-    pub periods: u32,
-    /// The cost of each unit of echelon stock, one rate an echelon.
-    pub holding: Amounts,
-    /// The cost of each unit that enters an echelon, one rate an echelon.
-    pub unit: Amounts,
-    /// The cost of each unit that lacks after a period's demand.
-    pub stockout: u64,
-    /// The factor on the cost of each later period is `discount_num / discount_den`.
-    pub discount_num: u32,
-    pub discount_den: u32,
-    /// One law that serves every period, or one each for `periods` periods.
-    pub laws: Laws,
-    /// The greatest echelon stock of the last echelon.
-    pub cap: i64,
-    /// The echelon stocks before the first period, never falling.
-    pub start: Positions,
-}
 
 /// An instance of one of the kinds.
 #[derive(Drop)]
@@ -102,15 +21,44 @@ pub enum Instance {
     Serial(Serial),
 }
 
+// The one dispatch by kind: a body over what an instance holds.
+macro_rules! of_any_kind {
+    ($instance:expr, $held:ident => $body:expr) => {
+        match $instance {
+            Instance::News($held) => $body,
+            Instance::Lots($held) => $body,
+            Instance::Finite($held) => $body,
+            Instance::Average($held) => $body,
+            Instance::Serial($held) => $body,
+        }
+    };
+}
+
 /// The kind of an instance.
-pub fn kind(item: &Instance) -> Kind
-    ensures { result ≡ kind_of item.now }
+pub fn kind(instance: &Instance) -> Kind
+    ensures { result ≡ kind_of instance.now }
 {
-    match item {
-        Instance::News(_) => Kind::News,
-        Instance::Lots(_) => Kind::Lots,
-        Instance::Finite(_) => Kind::Finite,
-        Instance::Average(_) => Kind::Average,
-        Instance::Serial(_) => Kind::Serial,
-    }
+    of_any_kind!(instance, held => held.kind())
+}
+
+/// Whether the grid of an instance is small enough: at most 20,000 positions in the finite kind and 2,000 in the average
+/// and serial kinds, and at most 1,000,000 cells of a period, an echelon and a position.
+pub fn grid_fits(instance: &Instance) -> bool
+    requires { IsReadable instance.now }
+    ensures meaning { IsTrue result ↔ GridFits instance.now }
+    ensures exact { result ≡ grid_fits instance.now }
+{
+    of_any_kind!(instance, held => held.grid_fits())
+}
+
+/// Whether the width number of an instance is at most 2^120. It is true for the kinds that have none, the newsvendor and
+/// lot sizing.
+///
+/// Where it is true, the fractions that a policy and its certificate are made of have room in 128 bits.
+pub fn width_ok(instance: &Instance) -> bool
+    requires { IsRegular instance.now }
+    ensures meaning { IsTrue result ↔ WidthFits instance.now }
+    ensures exact { result ≡ width_fits instance.now }
+{
+    of_any_kind!(instance, held => held.width_ok())
 }

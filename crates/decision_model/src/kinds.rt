@@ -1,5 +1,7 @@
 // The kinds of instance.
-ghost use Rattle.std.specs.Prelude.{◌≡◌};
+ghost use Rattle.std.specs.Prelude.{◌≡◌, find};
+ghost use Rattle.std.specs.Str.{bytes_eq};
+ghost use Rattle.decision_model.specs.Kind.{kind_word};
 
 /// The kind of an instance.
 #[derive(Clone, Copy, Debug, PartialEq, Eq)]
@@ -19,7 +21,17 @@ pub enum Kind {
 }
 
 impl Kind {
-    ghost use Rattle.decision_model.specs.Kind.{kind_word};
+    ghost use Rattle.decision_model.specs.Kind.{kind_word, kind_named};
+
+    /// All kinds, in their order.
+    pub const ALL: [Kind; 6] = [
+        Kind::News,
+        Kind::Lots,
+        Kind::Finite,
+        Kind::Average,
+        Kind::Serial,
+        Kind::Network,
+    ];
 
     /// The kind's name in instances, certificates and messages.
     pub fn word(self) -> &'static str
@@ -34,4 +46,23 @@ impl Kind {
             Kind::Network => "network",
         }
     }
+
+    /// The kind of this name, if there is one.
+    pub fn named(name: &str) -> Option<Kind>
+        ensures { result ≡ kind_named name.now }
+    {
+        first_named(&Kind::ALL, name)
+    }
+}
+
+// The first of some kinds that has this name.
+fn first_named(kinds: &[Kind], name: &str) -> Option<Kind>
+    ensures { result ≡ find (λ kind. bytes_eq (kind_word kind) name.now) kinds.now }
+{
+    for kind in kinds {
+        if kind.word() == name {
+            return Some(*kind);
+        }
+    }
+    None
 }

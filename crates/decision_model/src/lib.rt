@@ -1,18 +1,37 @@
 //! Instances of the solved kinds: what a decision knows before it is made, and when it is valid.
+//!
+//! A kind is one file, here and in the specs: its type, its ranges, its grid of positions and its width number.
 #![tactic(auto)]
 
+mod average;
+mod finite;
 mod grid;
 mod instance;
+mod items;
 mod kinds;
-mod lists;
+#[cfg(test)]
+mod least_tests;
+pub mod limits;
+mod lots;
+mod news;
+mod room;
 mod rules;
+mod serial;
+mod stock;
+mod sweep;
 #[cfg(test)]
 mod tests;
+mod walk;
 mod width;
+mod window;
 
-pub use grid::grid_fits;
-pub use instance::{Average, Finite, Instance, LotSize, Serial, kind};
+pub use average::{Average, has_demand, is_unit_demand};
+pub use finite::Finite;
+pub use instance::{Instance, grid_fits, kind, width_ok};
+pub use items::{Amounts, Items, Laws, Positions};
 pub use kinds::Kind;
-pub use lists::{Amounts, Laws, Positions};
-pub use rules::{has_demand, is_unit_demand, speculative_period};
-pub use width::width_ok;
+pub use lots::{LotSize, speculative_period};
+pub use serial::Serial;
+pub use sweep::Sweep;
+pub use walk::Walk;
+pub use window::Window;

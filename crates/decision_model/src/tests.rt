@@ -1,5 +1,5 @@
 // Worked instances: width numbers and grids at their limits, speculative costs, demand.
-ghost use Rattle.std.specs.Prelude.{◌≡◌, ℕ, ◌-◌, ◌≤◌, slice_index_or, pos, negsuc, ◌≤ℤ◌, IfOk, All, length};
+ghost use Rattle.std.specs.Prelude.{◌≡◌, ℕ, ◌-◌, ◌≤◌, slice_index_or, pos, negsuc, ◌≤ℤ◌, false, IfOk, All, length};
 ghost use Rattle.std.specs.List.{AllAdjacentBelow};
 ghost use Rattle.decision_model.specs.Rates.{IsRate};
 ghost use Rattle.decision_model.specs.Positions.{IsPosition};
@@ -10,12 +10,11 @@ ghost use Rattle.decision_model.specs.Average.{IsReadableAverage};
 ghost use Rattle.decision_model.specs.Serial.{IsReadableSerial};
 
 use crate::{
-    Amounts, Average, Finite, Instance, Laws, LotSize, Positions, Serial, grid_fits, has_demand,
-    is_unit_demand, speculative_period, width_ok,
+    Amounts, Average, Finite, Instance, Kind, Laws, LotSize, Positions, Serial, grid_fits,
+    has_demand, is_unit_demand, speculative_period, width_ok,
 };
 use demand_law::Law;
 use std::alloc::Global;
-use std::process::Abort;
 use std::test::Fail;
 
 fn law(alloc: Global, points: &[(u32, u32)]) -> Result<Law, Fail>
@@ -35,22 +34,19 @@ fn one_law(alloc: Global, points: &[(u32, u32)]) -> Result<Laws, Fail>
     Ok(Laws::new(laws))
 }
 
-// Whether the width number fits, the grid being small enough.
-fn is_finite_narrow(rt: &impl Abort, item: Finite) -> bool
-    requires { IsReadableFinite item }
-{
-    let item = Instance::Finite(item);
-    assert!(rt; grid_fits(&item));
-    width_ok(&item)
-}
-
-// 32 periods, W = 4 and b = 2: the width number is 2^5 times C times 2^66 times 2^32, and C is `setup` and 2,890 more.
-fn at_the_limit(alloc: Global, setup: u64) -> Result<Finite, Fail>
-    requires { setup ≤ 1000000 }
+// At a lead time of one period, W = 4, b = 2 and a greatest demand of 2.
+fn finite(alloc: Global, periods: u32, setup: u64, cap: i64, start: i64) -> Result<Finite, Fail>
+    requires some_period { 1 ≤ periods }
+    requires most_periods { periods ≤ 104 }
+    requires setup { setup ≤ 1000000 }
+    requires start { negsuc 999999 ≤ℤ start }
+    requires start_below { start ≤ℤ cap }
+    requires cap_some { pos 0 ≤ℤ cap }
+    requires cap_most { cap ≤ℤ pos 1000000 }
     ensures { IfOk result IsReadableFinite }
 {
     Ok(Finite {
-        periods: 32,
+        periods,
         lead: 1,
         setup,
         unit: 7,
@@ -61,155 +57,72 @@ fn at_the_limit(alloc: Global, setup: u64) -> Result<Finite, Fail>
         discount_num: 1,
         discount_den: 2,
         laws: one_law(alloc, &[(0, 1), (1, 1), (2, 2)])?,
-        cap: 20,
-        start: 3,
+        cap,
+        start,
         most: None,
     })
 }
 
+// The width number of 32 periods is 2^5 times C times 2^66 times 2^32, and C is the setup cost and 2,890 more.
 #[test]
 fn finite_widths(rt: HostRuntime) -> Result<(), Fail> {
-    let exact = at_the_limit(rt.alloc(), 128_182)?;
-    assert!(rt; is_finite_narrow(&rt, exact));
-    let wide = at_the_limit(rt.alloc(), 128_183)?;
-    assert!(rt; !is_finite_narrow(&rt, wide));
+    for (setup, fits) in [(128_182, true), (128_183, false)] {
+        let instance = Instance::Finite(finite(rt.alloc(), 32, setup, 20, 3)?);
+        assert!(rt; grid_fits(&instance));
+        assert_eq!(rt; width_ok(&instance), fits);
+    }
     Ok(())
-}
-
-// A year of months fits. Eight periods with a sum of weights of 1,000,000 don't, since 10^48 passes 2^120.
-#[test]
-fn months_and_weights(rt: HostRuntime) -> Result<(), Fail> {
-    let months = Finite {
-        periods: 12,
-        lead: 1,
-        setup: 40,
-        unit: 2,
-        holding: 1,
-        stockout: 9,
-        end_holding: 0,
-        end_stockout: 0,
-        discount_num: 1,
-        discount_den: 1,
-        laws: one_law(
-            rt.alloc(),
-            &[(0, 5), (1, 10), (2, 20), (3, 30), (4, 20), (5, 10), (6, 5)],
-        )?,
-        cap: 40,
-        start: 10,
-        most: None,
-    };
-    assert!(rt; is_finite_narrow(&rt, months));
-    let heavy = Finite {
-        periods: 8,
-        lead: 0,
-        setup: 1,
-        unit: 0,
-        holding: 1,
-        stockout: 3,
-        end_holding: 0,
-        end_stockout: 0,
-        discount_num: 1,
-        discount_den: 1,
-        laws: one_law(rt.alloc(), &[(0, 999_999), (1, 1)])?,
-        cap: 10,
-        start: 0,
-        most: None,
-    };
-    assert!(rt; !is_finite_narrow(&rt, heavy));
-    Ok(())
-}
-
-fn finite_grid_fits(alloc: Global, periods: u32, cap: i64, start: i64) -> Result<bool, Fail>
-    requires some_period { 1 ≤ periods }
-    requires most_periods { periods ≤ 104 }
-    requires start { negsuc 999999 ≤ℤ start }
-    requires start_below { start ≤ℤ cap }
-    requires cap_some { pos 0 ≤ℤ cap }
-    requires cap_most { cap ≤ℤ pos 1000000 }
-{
-    Ok(grid_fits(&Instance::Finite(Finite {
-        periods,
-        lead: 0,
-        setup: 0,
-        unit: 0,
-        holding: 1,
-        stockout: 3,
-        end_holding: 0,
-        end_stockout: 0,
-        discount_num: 1,
-        discount_den: 1,
-        laws: one_law(alloc, &[(0, 1), (1, 1)])?,
-        cap,
-        start,
-        most: Some(500),
-    })))
 }
 
 #[test]
 fn finite_grids(rt: HostRuntime) -> Result<(), Fail> {
-    // The grid begins one below the lower of 0 and the start for each period.
-    assert!(rt; finite_grid_fits(rt.alloc(), 1, 19_998, 5)?);
-    assert!(rt; !finite_grid_fits(rt.alloc(), 1, 19_999, 5)?);
-    assert!(rt; finite_grid_fits(rt.alloc(), 1, 19_991, -7)?);
-    assert!(rt; !finite_grid_fits(rt.alloc(), 1, 19_992, -7)?);
-    // 104 periods with 9,615 and with 9,616 positions.
-    assert!(rt; finite_grid_fits(rt.alloc(), 104, 9_510, 0)?);
-    assert!(rt; !finite_grid_fits(rt.alloc(), 104, 9_511, 0)?);
+    for (periods, cap, start, fits) in [
+        // The grid begins two below the lower of 0 and the start for each period.
+        (1, 19_997, 5, true),
+        (1, 19_998, 5, false),
+        (1, 19_990, -7, true),
+        (1, 19_991, -7, false),
+        // 104 periods with 9,615 and with 9,616 positions.
+        (104, 9_406, 0, true),
+        (104, 9_407, 0, false),
+    ] {
+        let instance = Instance::Finite(finite(rt.alloc(), periods, 0, cap, start)?);
+        assert_eq!(rt; grid_fits(&instance), fits);
+    }
     Ok(())
 }
 
-// W = 2^20, four positions and the weight 4 above demand 0: the width number is 2^5 times the setup cost and C, times
-// 2^80 times 2^12. C is 46.
-fn average_at_the_limit(alloc: Global, setup: u64) -> Result<Average, Fail>
-    requires { setup ≤ 1000000000 }
-    ensures { IfOk result IsReadableAverage }
+fn average(alloc: Global, setup: u64, points: &[(u32, u32)], cap: i64) -> Result<Average, Fail>
+    requires setup { setup ≤ 1000000000 }
+    requires cap_some { pos 0 ≤ℤ cap }
+    requires cap_most { cap ≤ℤ pos 1000000 }
+    ensures readable { IfOk result IsReadableAverage }
+    ensures any_demand { IfOk result (λ average. average.lots ≡ false) }
 {
     Ok(Average {
         lead: 1,
         setup,
         holding: 5,
         stockout: 7,
-        law: law(alloc, &[(0, 1_048_572), (2, 4)])?,
+        law: law(alloc, points)?,
         floor: -1,
-        cap: 2,
+        cap,
         lots: false,
     })
 }
 
-fn is_average_narrow(rt: &impl Abort, item: Average) -> bool
-    requires { IsReadableAverage item }
-{
-    assert!(rt; has_demand(&item));
-    assert!(rt; !item.lots);
-    let item = Instance::Average(item);
-    assert!(rt; grid_fits(&item));
-    width_ok(&item)
-}
-
+// W = 2^20, four positions and the weight 4 above demand 0: the width number is 2^5 times the setup cost and C, times
+// 2^80 times 2^12. C is 46.
 #[test]
 fn average_widths(rt: HostRuntime) -> Result<(), Fail> {
-    let exact = average_at_the_limit(rt.alloc(), 8_388_562)?;
-    assert!(rt; is_average_narrow(&rt, exact));
-    let wide = average_at_the_limit(rt.alloc(), 8_388_563)?;
-    assert!(rt; !is_average_narrow(&rt, wide));
+    for (setup, fits) in [(8_388_562, true), (8_388_563, false)] {
+        let average = average(rt.alloc(), setup, &[(0, 1_048_572), (2, 4)], 2)?;
+        assert!(rt; has_demand(&average));
+        let instance = Instance::Average(average);
+        assert!(rt; grid_fits(&instance));
+        assert_eq!(rt; width_ok(&instance), fits);
+    }
     Ok(())
-}
-
-fn average(alloc: Global, points: &[(u32, u32)], cap: i64) -> Result<Average, Fail>
-    requires cap_some { pos 0 ≤ℤ cap }
-    requires cap_most { cap ≤ℤ pos 1000000 }
-    ensures { IfOk result IsReadableAverage }
-{
-    Ok(Average {
-        lead: 0,
-        setup: 1,
-        holding: 1,
-        stockout: 3,
-        law: law(alloc, points)?,
-        floor: 0,
-        cap,
-        lots: true,
-    })
 }
 
 #[test]
@@ -220,25 +133,25 @@ fn average_rules(rt: HostRuntime) -> Result<(), Fail> {
         ([(0, 1), (2, 1)].as_slice(), true, false),
         ([(1, 3)].as_slice(), true, true),
     ] {
-        let item = average(rt.alloc(), points, 2)?;
-        assert_eq!(rt; has_demand(&item), some);
-        assert_eq!(rt; is_unit_demand(&item), unit);
+        let average = average(rt.alloc(), 1, points, 2)?;
+        assert_eq!(rt; has_demand(&average), some);
+        assert_eq!(rt; is_unit_demand(&average), unit);
     }
-    let full = average(rt.alloc(), &[(0, 1), (1, 1)], 1_999)?;
-    assert!(rt; grid_fits(&Instance::Average(full)));
-    let over = average(rt.alloc(), &[(0, 1), (1, 1)], 2_000)?;
-    assert!(rt; !grid_fits(&Instance::Average(over)));
+    for (cap, fits) in [(1_998, true), (1_999, false)] {
+        let instance = Instance::Average(average(rt.alloc(), 1, &[(1, 3)], cap)?);
+        assert_eq!(rt; grid_fits(&instance), fits);
+    }
     Ok(())
 }
 
-fn amounts(alloc: Global, items: &[u64], most: u64) -> Result<Amounts, Fail>
-    ensures same { IfOk result (λ amounts. amounts ≡ items.now) }
+fn amounts(alloc: Global, list: &[u64], most: u64) -> Result<Amounts, Fail>
+    ensures same { IfOk result (λ amounts. amounts ≡ list.now) }
     ensures in_range { IfOk result (λ amounts. All (λ amount. amount ≤ most) amounts) }
 {
-    if !items.iter().all(|item| *item <= most) {
+    if !list.iter().all(|amount| *amount <= most) {
         return Err(Fail::from("an amount is out of range"));
     }
-    Ok(Amounts::new(items.to_vec(alloc)?))
+    Ok(Amounts::new(list.to_vec(alloc)?))
 }
 
 fn lots(alloc: Global, unit: &[u64], holding: &[u64]) -> Result<LotSize, Fail>
@@ -268,8 +181,8 @@ fn speculative_periods(rt: HostRuntime) -> Result<(), Fail> {
         ([4, 3, 2, 1], [0, 0, 0, 0], None),
         ([0, 0, 0, 0], [0, 0, 0, 0], None),
     ] {
-        let item = lots(rt.alloc(), &unit, &holding)?;
-        assert_eq!(rt; speculative_period(&item), period);
+        let lots = lots(rt.alloc(), &unit, &holding)?;
+        assert_eq!(rt; speculative_period(&lots), period);
     }
     Ok(())
 }
@@ -318,28 +231,31 @@ fn serial(alloc: Global, stockout: u64, cap: i64) -> Result<Serial, Fail>
     })
 }
 
-fn is_serial_narrow(rt: &impl Abort, item: Serial) -> bool
-    requires { IsReadableSerial item }
-{
-    let item = Instance::Serial(item);
-    assert!(rt; grid_fits(&item));
-    width_ok(&item)
-}
-
 #[test]
 fn serial_widths(rt: HostRuntime) -> Result<(), Fail> {
-    let exact = serial(rt.alloc(), 443_933, 275)?;
-    assert!(rt; is_serial_narrow(&rt, exact));
-    let wide = serial(rt.alloc(), 443_934, 275)?;
-    assert!(rt; !is_serial_narrow(&rt, wide));
+    for (stockout, fits) in [(443_933, true), (443_934, false)] {
+        let instance = Instance::Serial(serial(rt.alloc(), stockout, 275)?);
+        assert!(rt; grid_fits(&instance));
+        assert_eq!(rt; width_ok(&instance), fits);
+    }
     Ok(())
 }
 
 #[test]
 fn serial_grids(rt: HostRuntime) -> Result<(), Fail> {
-    let full = serial(rt.alloc(), 9, 1_947)?;
-    assert!(rt; grid_fits(&Instance::Serial(full)));
-    let over = serial(rt.alloc(), 9, 1_948)?;
-    assert!(rt; !grid_fits(&Instance::Serial(over)));
+    for (cap, fits) in [(1_947, true), (1_948, false)] {
+        let instance = Instance::Serial(serial(rt.alloc(), 9, cap)?);
+        assert_eq!(rt; grid_fits(&instance), fits);
+    }
     Ok(())
+}
+
+#[test]
+fn names_of_kinds(rt: HostRuntime) {
+    for kind in Kind::ALL {
+        assert!(rt; Kind::named(kind.word()) == Some(kind));
+    }
+    for name in ["", "news", "Newsvendor", "lots "] {
+        assert!(rt; Kind::named(name).is_none());
+    }
 }

@@ -1,18 +1,16 @@
--- A discount, a policy, a cap and echelon stocks that were written are read back.
-use Rattle.std.proofs.Common.{◌≡◌, ℕ, suc, ◌+◌, ◌-◌, ◌<◌, ◌≤◌, ℤ, pos, negsuc, ◌≤ℤ◌, List, [], ◌∷◌, length, get_or, All, Bool, true, false, Ok, refl, ap, ◌∙◌, subst, arith}
+-- A discount, a policy and echelon stocks that were written are read back.
+use Rattle.std.proofs.Common.{◌≡◌, ℕ, suc, ◌+◌, ◌-◌, ◌<◌, ℤ, pos, negsuc, ◌≤ℤ◌, List, [], ◌∷◌, length, get_or, All, Bool, true, false, Ok, refl, subst, arith}
 use Rattle.std.specs.Prelude.{int_le}
 use Rattle.std.specs.List.{list_all, AllAdjacentBelow}
-use Rattle.std.proofs.lemmas.Int.{ints}
 use Rattle.demand_law.specs.Integers.{le_trans}
 use Rattle.serde_json.specs.Data.{string}
 use Rattle.decision_model.specs.Rates.{IsDiscount}
-use Rattle.decision_model.specs.Positions.{IsPosition, IsCap}
+use Rattle.decision_model.specs.Positions.{IsPosition}
 use Rattle.instance_json.specs.declared.law_texts.NumberTest.TheVariants.{Whole}
-use Rattle.instance_json.specs.Numbers.{amount_in}
 use Rattle.instance_json.specs.Fields.{discount_in, policy_in}
 use Rattle.instance_json.specs.Positions.{rises_from, is_start}
-use Rattle.instance_json.specs.WrittenValues.{position_data, pair_data}
-use Rattle.instance_json.specs.WrittenKinds.{policy_text}
+use Rattle.instance_json.specs.WrittenValues.{pair_data}
+use Rattle.instance_json.specs.Average.{policy_text}
 use Rattle.instance_json.proofs.BackNumbers.{amount_back, int_le_is}
 use Rattle.instance_json.proofs.BackLaws.{is_tuple-pair}
 
@@ -26,14 +24,6 @@ discount_back num den is =
 pub policy_back : (lots : Bool) → policy_in (string (policy_text lots)) ≡ Ok lots
 policy_back true = refl
 policy_back false = refl
-
--- a cap is a natural number
-pub cap_number : (cap : ℤ) → IsCap cap → (n : ℕ) × (cap ≡ pos n) × (n ≤ 1000000)
-cap_number (pos n) is = (n, refl, omega (arith, ints, is.most))
-cap_number (negsuc n) is = absurd (omega (arith, ints, is.least))
-
-pub cap_back : (cap : ℤ) (n : ℕ) → cap ≡ pos n → n ≤ 1000000 → amount_in 0 1000000 (position_data cap) ≡ Ok n
-cap_back cap n is small = ap (λ (z : ℤ). amount_in 0 1000000 (position_data z)) is ∙ amount_back 0 1000000 n (omega arith) small
 
 -- ---- echelon stocks
 abbrev NeverFalls : List ℤ → Type 0

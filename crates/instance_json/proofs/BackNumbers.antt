@@ -3,13 +3,12 @@ use Rattle.std.proofs.Common.{◌≡◌, ℕ, suc, ◌^◌, ◌<◌, ◌≤◌, 
 use Rattle.std.proofs.lemmas.Int.{ints}
 use Rattle.std.specs.Prelude.{int_le, is_some, ◌||◌, nat_lt}
 use Rattle.std.specs.List.{list_all}
-use Rattle.decision_model.specs.Positions.{IsPosition}
+use Rattle.decision_model.specs.Positions.{IsPosition, IsCap}
 use Rattle.serde_json.specs.Data.{Data}
 use Rattle.serde_json.specs.View.{items_of}
-use Rattle.instance_json.specs.declared.fault.FieldFault.{FieldFault}
 use Rattle.instance_json.specs.declared.fault.FieldFault.TheVariants.{WrongType}
 use Rattle.instance_json.specs.Steps.{◌>>=◌, each}
-use Rattle.instance_json.specs.Numbers.{is_whole, within, amount_in, some_amount_in, position_within, position_in, list_of, all_whole, items_in, amounts_in, positions_in, of_length_within, some_amounts_in, start_positions_in, rates_in}
+use Rattle.instance_json.specs.Numbers.{is_whole, within, amount_in, position_within, position_in, cap_in, list_of, all_whole, items_in, amounts_in, positions_in, of_length_within, some_amounts_in, start_positions_in, rates_in}
 use Rattle.instance_json.specs.WrittenValues.{amount_data, position_data, list_data, amounts_data, positions_data}
 
 -- ---- tests
@@ -35,9 +34,6 @@ pub amount_back : (least most n : ℕ) → least ≤ n → n ≤ most → amount
 amount_back least most n above below =
     ap (λ (b : Bool). cond b (within least most (Some n)) (Err WrongType)) (is_whole-amount n) ∙ within-in least most n above below
 
-pub some_amount_back : (least most n : ℕ) → least ≤ n → n ≤ most → some_amount_in least most (amount_data n) ≡ Ok (Some n)
-some_amount_back least most n above below = ap (λ (r : Result ℕ FieldFault). r >>= λ k. Ok (Some k)) (amount_back least most n above below)
-
 position_is : (z : ℤ) → negsuc 999999 ≤ℤ z → z ≤ℤ pos 1000000 → position_within (Some z) ≡ Ok z
 position_is z above below = rw (int_le_is (negsuc 999999) z above, int_le_is z (pos 1000000) below) refl
 
@@ -46,6 +42,10 @@ position_back (pos n) above below =
     let small : n < 2 ^ 63 = omega (arith, ints) in
     rw (lt-ltb n (2 ^ 63) small) (position_is (pos n) above below)
 position_back (negsuc n) above below = position_is (negsuc n) above below
+
+pub cap_back : (z : ℤ) → IsCap z → cap_in (position_data z) ≡ Ok z
+cap_back (pos n) is = ap (λ r. r >>= λ k. Ok (pos k)) (amount_back 0 1000000 n (omega arith) (omega (arith, ints, is.most)))
+cap_back (negsuc n) is = absurd (omega (arith, ints, is.least))
 
 -- ---- lists
 listed_again : (ds : List Data) → list_of (items_of ds) ≡ ds

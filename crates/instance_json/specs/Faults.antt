@@ -15,17 +15,17 @@ use Rattle.instance_json.specs.declared.fault.InstanceErr.TheVariants.{Bad, Memo
 abbrev pub top_key : List ℕ → Key
 top_key name = record { list = Top; item = 0; name = name }
 
--- what is wrong with the value of a key, told of the key
-abbrev pub told_fault : Key → FieldFault → InstanceFault
-told_fault key WrongType = instance.WrongType key
-told_fault key OutOfRange = instance.OutOfRange key
-told_fault key LengthMismatch = instance.LengthMismatch key
-told_fault key (BadLaw f) = instance.BadLaw key f
+-- what is wrong with the value of a key, with the key
+abbrev pub fault_of_key : Key → FieldFault → InstanceFault
+fault_of_key key WrongType = instance.WrongType key
+fault_of_key key OutOfRange = instance.OutOfRange key
+fault_of_key key LengthMismatch = instance.LengthMismatch key
+fault_of_key key (BadLaw f) = instance.BadLaw key f
 
--- the reading of a key's value, with its fault told of the key
-abbrev pub told : {A : Type 0} → List ℕ → Result A FieldFault → Result A InstanceFault
-told name (Ok a) = Ok a
-told name (Err f) = Err (told_fault (top_key name) f)
+-- the reading of a key's value, with the key of its fault
+abbrev pub of_key : {A : Type 0} → List ℕ → Result A FieldFault → Result A InstanceFault
+of_key name (Ok a) = Ok a
+of_key name (Err f) = Err (fault_of_key (top_key name) f)
 
 -- the answer of a field's reader is the reading, or memory was refused
 abbrev pub GivesField : {A : Type 0} → Result A FieldErr → Result A FieldFault → Type 0
@@ -34,10 +34,10 @@ GivesField (Err (field.Bad f)) reading = reading ≡ Err f
 GivesField (Err field.Memory) reading = ⊤
 
 -- the refusal for a key's value is the value's fault, told of the key, or memory was refused
-abbrev pub TellsErr : List ℕ → FieldErr → InstanceErr → Type 0
-TellsErr name e Memory = ⊤
-TellsErr name (field.Bad f) (Bad g) = g ≡ told_fault (top_key name) f
-TellsErr name field.Memory (Bad g) = ⊥
+abbrev pub IsKeyErr : List ℕ → FieldErr → InstanceErr → Type 0
+IsKeyErr name e Memory = ⊤
+IsKeyErr name (field.Bad f) (Bad g) = g ≡ fault_of_key (top_key name) f
+IsKeyErr name field.Memory (Bad g) = ⊥
 
 -- the reading has this fault, or memory was refused
 abbrev pub Refuses : {A : Type 0} → InstanceErr → Result A InstanceFault → Type 0

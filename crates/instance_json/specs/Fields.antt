@@ -3,6 +3,7 @@ use Rattle.std.specs.Prelude.{ℕ, List, codes, Bool, true, false, if◌then◌e
 use Rattle.std.specs.Str.{bytes_eq}
 use Rattle.serde_json.specs.Data.{Data}
 use Rattle.serde_json.specs.Find.{at, as_str}
+use Rattle.decision_model.specs.declared.limits.TheConstants.{MOST_DISCOUNT}
 use Rattle.instance_json.specs.declared.fault.FieldFault.{FieldFault}
 use Rattle.instance_json.specs.declared.fault.FieldFault.TheVariants.{WrongType, OutOfRange}
 use Rattle.instance_json.specs.declared.law_texts.NumberTest.TheVariants.{Whole}
@@ -17,7 +18,7 @@ part_of most (Some d) = amount_in 1 most d
 -- the numbers a and b of a list, with 1 ≤ a ≤ b ≤ 1,000
 abbrev pub ratio_in : Data → Result (ℕ × ℕ) FieldFault
 ratio_in d = do
-  b ← part_of 1000 (at 1 d)
+  b ← part_of MOST_DISCOUNT (at 1 d)
   a ← part_of b (at 0 d)
   Ok (a, b)
 
@@ -29,6 +30,6 @@ abbrev pub policy_named : Option (List ℕ) → Result Bool FieldFault
 policy_named None = Err WrongType
 policy_named (Some s) = if bytes_eq s (codes "sS") then Ok false else (if bytes_eq s (codes "rQ") then Ok true else Err OutOfRange)
 
--- whether a policy is told as a reorder point with a lot
+-- whether a policy is a reorder point with a lot
 abbrev pub policy_in : Data → Result Bool FieldFault
 policy_in d = policy_named (as_str d)

@@ -10,6 +10,7 @@ use Rattle.demand_law.specs.Named.{uniform_fault, uniform_law, binomial_fault, b
 use Rattle.demand_law.specs.declared.law.LawFault.{LawFault}
 use Rattle.demand_law.specs.declared.law.LawErr.{LawErr}
 use Rattle.demand_law.specs.declared.law.LawErr.TheVariants as law
+use Rattle.instance_json.specs.declared.law_texts.TheConstants.{MOST_WORD}
 use Rattle.instance_json.specs.declared.fault.FieldErr.{FieldErr}
 use Rattle.instance_json.specs.declared.fault.FieldErr.TheVariants.{Bad, Memory}
 use Rattle.instance_json.specs.declared.fault.FieldFault.{FieldFault}
@@ -24,7 +25,7 @@ use Rattle.instance_json.specs.Numbers.{is_whole, is_amount, amount_in, items_in
 -- ---- shape
 abbrev pub passes : NumberTest → Data → Bool
 passes Whole d = is_whole d
-passes Word d = is_amount 0 4294967295 d
+passes Word d = is_amount 0 MOST_WORD d
 
 abbrev pub all_pass : (Data → Bool) → Option (List Data) → Bool
 all_pass test None = false
@@ -68,7 +69,7 @@ is_law test d = text_passes test (law_text d)
 -- ---- value
 abbrev pub number_of : Option Data → Result ℕ FieldFault
 number_of None = Err WrongType
-number_of (Some d) = amount_in 0 4294967295 d
+number_of (Some d) = amount_in 0 MOST_WORD d
 
 -- a demand and its weight
 abbrev pub point_in : Data → Result (ℕ × ℕ) FieldFault

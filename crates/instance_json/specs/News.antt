@@ -1,25 +1,54 @@
--- The newsvendor that an object says.
-use Rattle.std.specs.Prelude.{ℕ, ◌+◌, List, [], ◌∷◌, codes, nat_lt, Result, Ok}
-use Rattle.newsvendor.specs.Item.{NewsvendorItem}
-use Rattle.serde_json.specs.Data.{Data}
+-- The text of a newsvendor.
+use Rattle.std.specs.Prelude.{◌+◌, List, [], ◌∷◌, codes, nat_lt, Result, Ok, ⊤}
+use Rattle.newsvendor.specs.Item.{NewsvendorItem, IsNewsvendor}
+use Rattle.decision_model.specs.declared.limits.TheConstants.{MOST_RATE}
+use Rattle.serde_json.specs.Data.{Data, string, object}
+use Rattle.decision_model.specs.declared.kinds.Kind.TheVariants as kind
+use Rattle.decision_model.specs.Kind.{kind_word}
 use Rattle.instance_json.specs.declared.fault.InstanceFault.{InstanceFault}
 use Rattle.instance_json.specs.Steps.{◌>>=◌}
 use Rattle.instance_json.specs.Numbers.{amount_in}
 use Rattle.instance_json.specs.LawTexts.{law_in}
-use Rattle.instance_json.specs.Keys.{required, in_range}
+use Rattle.instance_json.specs.Keys.{Row, needs, allows, required, in_range}
+use Rattle.instance_json.specs.WrittenValues.{amount_data, law_data}
+use Rattle.instance_json.specs.Members.{Named, listed}
+use Rattle.instance_json.specs.KindText.{TextOf}
 
--- the keys that must be there, and all that may be
-abbrev pub newsvendor_needed : List (List ℕ)
-newsvendor_needed = codes "holding" ∷ codes "stockout" ∷ codes "demand" ∷ []
-
-abbrev pub newsvendor_known : List (List ℕ)
-newsvendor_known = codes "kind" ∷ codes "holding" ∷ codes "stockout" ∷ codes "demand" ∷ []
+abbrev pub news_keys : List Row
+news_keys =
+    allows (codes "kind")
+    ∷ needs (codes "holding")
+    ∷ needs (codes "stockout")
+    ∷ needs (codes "demand")
+    ∷ []
 
 -- the values, key by key; the rates are not both 0
-unfoldable pub newsvendor_of : Data → Result NewsvendorItem InstanceFault
-newsvendor_of d = do
-  holding ← required (amount_in 0 1000000) (codes "holding") d
-  stockout ← required (amount_in 0 1000000) (codes "stockout") d
+unfoldable pub news_of : Data → Result NewsvendorItem InstanceFault
+news_of d = do
+  holding ← required (amount_in 0 MOST_RATE) (codes "holding") d
+  stockout ← required (amount_in 0 MOST_RATE) (codes "stockout") d
   _ ← in_range (codes "stockout") (nat_lt 0 (holding + stockout))
   law ← required law_in (codes "demand") d
   Ok (record { holding = holding; stockout = stockout; law = law })
+
+abbrev pub news_members : NewsvendorItem → List Named
+news_members news =
+    (codes "demand", law_data news.law)
+    ∷ (codes "holding", amount_data news.holding)
+    ∷ (codes "kind", string (kind_word kind.News))
+    ∷ (codes "stockout", amount_data news.stockout)
+    ∷ []
+
+unfoldable pub news_data : NewsvendorItem → Data
+news_data news = object (listed (news_members news))
+
+abbrev pub news_text : TextOf NewsvendorItem
+news_text = record {
+  keys = news_keys;
+  reading = news_of;
+  readable = λ news. ⊤;
+  broken = λ news. Ok tt;
+  meets = λ news. ⊤;
+  typed = IsNewsvendor;
+  written = news_data;
+}

@@ -1,8 +1,9 @@
 -- Whole numbers and lists of them in JSON values.
-use Rattle.std.specs.Prelude.{ℕ, ◌&&◌, ◌||◌, ℤ, pos, negsuc, List, [], ◌∷◌, length, replicate, Bool, nat_le, int_le, if◌then◌else◌, Option, Some, None, is_some, is_ok, option_map, option_and_then, Result, Ok, Err}
+use Rattle.std.specs.Prelude.{ℕ, ◌&&◌, ◌||◌, ℤ, pos, List, [], ◌∷◌, length, replicate, Bool, nat_le, int_le, if◌then◌else◌, Option, Some, None, is_some, is_ok, option_map, option_and_then, Result, Ok, Err}
 use Rattle.std.specs.List.{list_all}
 use Rattle.serde_json.specs.Data.{Data, Items, no_items, item}
 use Rattle.serde_json.specs.Find.{as_number, as_u64, as_i64, as_array}
+use Rattle.decision_model.specs.declared.limits.TheConstants.{LEAST_POSITION, MOST_POSITION, MOST_CAP}
 use Rattle.instance_json.specs.declared.fault.FieldFault.{FieldFault}
 use Rattle.instance_json.specs.declared.fault.FieldFault.TheVariants.{WrongType, OutOfRange, LengthMismatch}
 use Rattle.instance_json.specs.Steps.{◌>>=◌, each}
@@ -23,17 +24,17 @@ amount_in least most d = if is_whole d then within least most (option_and_then a
 abbrev pub is_amount : ℕ → ℕ → Data → Bool
 is_amount least most d = is_ok (amount_in least most d)
 
--- the same, where the number may be absent
-abbrev pub some_amount_in : ℕ → ℕ → Data → Result (Option ℕ) FieldFault
-some_amount_in least most d = amount_in least most d >>= λ n. Ok (Some n)
-
 abbrev pub position_within : Option ℤ → Result ℤ FieldFault
 position_within None = Err OutOfRange
-position_within (Some z) = if int_le (negsuc 999999) z && int_le z (pos 1000000) then Ok z else Err OutOfRange
+position_within (Some z) = if int_le LEAST_POSITION z && int_le z MOST_POSITION then Ok z else Err OutOfRange
 
 -- a whole number from -1,000,000 to 1,000,000
 abbrev pub position_in : Data → Result ℤ FieldFault
 position_in d = if is_whole d then position_within (option_and_then as_i64 (as_number d)) else Err WrongType
+
+-- a cap, from 0
+abbrev pub cap_in : Data → Result ℤ FieldFault
+cap_in d = amount_in 0 MOST_CAP d >>= λ n. Ok (pos n)
 
 -- ---- lists
 abbrev pub list_of : Items → List Data

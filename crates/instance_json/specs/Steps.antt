@@ -1,5 +1,5 @@
 -- Steps that may fail, one after another.
-use Rattle.std.specs.Prelude.{List, [], ◌∷◌, Result, Ok, Err}
+use Rattle.std.specs.Prelude.{List, [], ◌∷◌, Bool, if◌then◌else◌, Result, Ok, Err, ⊤}
 
 infixl 10 ◌>>=◌
 -- what the first step gives goes to the second, and a fault ends them
@@ -14,3 +14,7 @@ each form (d ∷ ds) = do
   a ← form d
   rest ← each form ds
   Ok (a ∷ rest)
+
+-- the fault where a rule is broken
+abbrev pub unless : {E : Type 0} → E → Bool → Result ⊤ E
+unless fault holds = if holds then Ok tt else Err fault

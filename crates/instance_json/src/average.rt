@@ -1,54 +1,100 @@
-// The average-cost instance that an object says.
-ghost use Rattle.std.specs.Prelude.{IfOk};
-ghost use Rattle.serde_json.specs.View.{view};
-ghost use Rattle.decision_model.specs.Average.{IsReadableAverage};
-ghost use Rattle.instance_json.specs.Faults.{Gives};
-ghost use Rattle.instance_json.specs.Keys.{has_keys};
-ghost use Rattle.instance_json.specs.Averages.{average_of, average_needed, average_known};
+// The text of an average-cost instance.
+ghost use Rattle.std.specs.Prelude.{◌≡◌, IsTrue};
+ghost use Rattle.decision_model.specs.Average.{IsUnitDemand};
+ghost use Rattle.instance_json.specs.Average.{lots_fit};
 
-use crate::fault::InstanceErr;
-use crate::keys::{
-    amount_at, amount_or_zero, count_or_zero, has_keys, in_range, law_at, policy_or_default,
-    position_at,
-};
-use crate::limits::{MOST_LEAD, MOST_RATE, MOST_SETUP};
-use decision_model::Average;
-use serde_json::Value;
-use std::alloc::Global;
+use crate::fault::{InstanceErr, InstanceFault};
+use crate::fields::Policy;
+use crate::form::{in_range, optional, required};
+use crate::keys::KeyRow::{Allowed, Needed};
+use crate::keys::{KeyRow, has_keys};
+use crate::kinds::KindText;
+use crate::laws::DemandLaw;
+use crate::numbers::{LEAD, Position, RATE, SETUP};
+use crate::write_values::{law_value, put_amounts, put_text};
+use decision_model::{Average, Kind, has_demand, is_unit_demand};
+use serde_json::{Map, Value, put};
+use std::alloc::{AllocError, Global};
 
-/// The object has the keys of the kind.
-pub fn average_keys(alloc: Global, object: &Value) -> Result<(), InstanceErr>
-    ensures { Gives result (has_keys average_needed average_known (view object.now)) }
+const KEYS: [KeyRow; 9] = [
+    Allowed("kind"),
+    Allowed("lead"),
+    Allowed("setup"),
+    Needed("holding"),
+    Needed("stockout"),
+    Needed("demand"),
+    Needed("floor"),
+    Needed("cap"),
+    Allowed("policy"),
+];
+
+// Lots are asked for only where no demand is above 1.
+fn lots_fit(average: &Average) -> bool
+    ensures value { result ≡ lots_fit average.now }
+    ensures meaning { IsTrue result → IsTrue average.now.lots → IsUnitDemand average.now.law }
 {
-    let needed = ["holding", "stockout", "demand", "floor", "cap"];
-    let known = [
-        "kind", "lead", "setup", "holding", "stockout", "demand", "floor", "cap", "policy",
-    ];
-    has_keys(alloc, object, &needed, &known)
+    !average.lots || is_unit_demand(average)
 }
 
-/// The values of the keys, in the order of the table.
-pub fn average(alloc: Global, object: &Value) -> Result<Average, InstanceErr>
-    ensures value { Gives result (average_of (view object.now)) }
-    ensures readable { IfOk result IsReadableAverage }
-{
-    let lead = count_or_zero(alloc, object, "lead", MOST_LEAD)?;
-    let setup = amount_or_zero(alloc, object, "setup", MOST_SETUP)?;
-    let holding = amount_at(alloc, object, "holding", 0, MOST_RATE)?;
-    let stockout = amount_at(alloc, object, "stockout", 0, MOST_RATE)?;
-    let law = law_at(alloc, object, "demand")?;
-    let floor = position_at(alloc, object, "floor")?;
-    let cap = position_at(alloc, object, "cap")?;
-    in_range(alloc, "cap", floor <= cap)?;
-    let lots = policy_or_default(alloc, object)?;
-    Ok(Average {
-        lead,
-        setup,
-        holding,
-        stockout,
-        law,
-        floor,
-        cap,
-        lots,
-    })
+impl KindText for Average {
+    ghost use Rattle.instance_json.specs.Average.{average_text};
+
+    ghost text = { average_text };
+
+    fn has_keys(alloc: Global, object: &Value) -> Result<(), InstanceErr> {
+        has_keys(alloc, object, &KEYS)
+    }
+
+    #[tactic(auto, using(crate::proofs::Chained::gives_refused, crate::proofs::Chained::gives_rest, crate::proofs::Chained::taken), unfolding(crate::specs::Average::average_of))]
+    fn read(alloc: Global, object: &Value) -> Result<Average, InstanceErr> {
+        let lead = optional(alloc, object, "lead", LEAD, 0)?;
+        let setup = optional(alloc, object, "setup", SETUP, 0)?;
+        let holding = required(alloc, object, "holding", RATE)?;
+        let stockout = required(alloc, object, "stockout", RATE)?;
+        let law = required(alloc, object, "demand", DemandLaw)?;
+        let floor = required(alloc, object, "floor", Position)?;
+        let cap = required(alloc, object, "cap", Position)?;
+        in_range(alloc, "cap", floor <= cap)?;
+        let lots = optional(alloc, object, "policy", Policy, false)?;
+        Ok(Average {
+            lead,
+            setup,
+            holding,
+            stockout,
+            law,
+            floor,
+            cap,
+            lots,
+        })
+    }
+
+    fn rules(&self) -> Result<(), InstanceFault> {
+        if !has_demand(self) {
+            return Err(InstanceFault::NoDemand);
+        }
+        if !lots_fit(self) {
+            return Err(InstanceFault::NotUnitDemand);
+        }
+        Ok(())
+    }
+
+    #[tactic(auto, unfolding(crate::specs::Average::average_data))]
+    fn to_value(&self, alloc: Global) -> Result<Value, AllocError> {
+        let demand = law_value(alloc, &self.law)?;
+        let policy = if self.lots { "rQ" } else { "sS" };
+        let mut members = Map::new(alloc);
+        put_text(&mut members, alloc, "kind", Kind::Average.word())?;
+        put_text(&mut members, alloc, "policy", policy)?;
+        put(&mut members, alloc, "demand", demand)?;
+        put(&mut members, alloc, "floor", Value::from(self.floor))?;
+        put(&mut members, alloc, "cap", Value::from(self.cap))?;
+        let amounts = [
+            ("lead", u64::from(self.lead)),
+            ("setup", self.setup),
+            ("holding", self.holding),
+            ("stockout", self.stockout),
+        ];
+        put_amounts(&mut members, alloc, &amounts)?;
+        Ok(Value::Object(members))
+    }
 }

@@ -1,6 +1,6 @@
 // Why a text says no instance, and where.
 ghost use Rattle.std.specs.Prelude.{◌≡◌, IfOk, IfErr};
-ghost use Rattle.instance_json.specs.Faults.{top_key, told_fault, TellsErr};
+ghost use Rattle.instance_json.specs.Faults.{top_key, fault_of_key, IsKeyErr};
 
 use demand_law::LawFault;
 use fraction128::Text;
@@ -143,9 +143,9 @@ pub fn top_key(alloc: Global, name: &str) -> Result<Key, InstanceErr>
     }
 }
 
-// What is wrong with the value of a key, told of the key.
-fn told_fault(key: Key, fault: FieldFault) -> InstanceFault
-    ensures { result ≡ told_fault key fault }
+// What is wrong with the value of a key, with the key.
+fn fault_of_key(key: Key, fault: FieldFault) -> InstanceFault
+    ensures { result ≡ fault_of_key key fault }
 {
     match fault {
         FieldFault::WrongType => InstanceFault::WrongType(key),
@@ -155,14 +155,14 @@ fn told_fault(key: Key, fault: FieldFault) -> InstanceFault
     }
 }
 
-// The refusal for the value of a key, told of the key.
-pub fn told_err(alloc: Global, name: &str, error: FieldErr) -> InstanceErr
-    ensures { TellsErr name.now error result }
+// The refusal for the value of a key.
+pub fn key_err(alloc: Global, name: &str, error: FieldErr) -> InstanceErr
+    ensures { IsKeyErr name.now error result }
 {
     match error {
         FieldErr::Memory => InstanceErr::Memory,
         FieldErr::Bad(fault) => match top_key(alloc, name) {
-            Ok(key) => InstanceErr::Bad(told_fault(key, fault)),
+            Ok(key) => InstanceErr::Bad(fault_of_key(key, fault)),
             Err(refused) => refused,
         },
     }

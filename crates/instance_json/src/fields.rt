@@ -8,11 +8,13 @@ ghost use Rattle.decision_model.specs.Rates.{IsDiscount};
 ghost use Rattle.instance_json.specs.Positions.{rises_from, is_start};
 ghost use Rattle.instance_json.specs.Fields.{part_of, discount_in, policy_in};
 
-use crate::fault::FieldFault;
+use crate::fault::{FieldErr, FieldFault};
+use crate::form::Form;
 use crate::law_texts::{NumberTest, is_tuple};
-use crate::limits::{LEAST_POSITION, MOST_DISCOUNT};
-use crate::numbers::count;
+use crate::numbers::count_of;
+use decision_model::limits::{LEAST_POSITION, MOST_DISCOUNT};
 use serde_json::Value;
+use std::alloc::Global;
 
 fn part(value: &Value, place: usize, most: u32) -> Result<u32, FieldFault>
     ensures value { result ≡ part_of most (at place (view value.now)) }
@@ -20,13 +22,13 @@ fn part(value: &Value, place: usize, most: u32) -> Result<u32, FieldFault>
     ensures most { IfOk result (λ number. number ≤ most) }
 {
     match value.get(place) {
-        Some(number) => count(number, 1, most),
+        Some(number) => count_of(number, 1, most),
         None => Err(FieldFault::WrongType),
     }
 }
 
-/// The numbers a and b of a discount a/b.
-pub fn discount(value: &Value) -> Result<(u32, u32), FieldFault>
+// The numbers a and b of a discount a/b.
+fn discount_of(value: &Value) -> Result<(u32, u32), FieldFault>
     ensures value { result ≡ discount_in (view value.now) }
     ensures range { IfOk result (λ ratio. IsDiscount ratio.0 ratio.1) }
 {
@@ -38,8 +40,8 @@ pub fn discount(value: &Value) -> Result<(u32, u32), FieldFault>
     Ok((num, den))
 }
 
-/// Whether a policy is told as a reorder point with a lot.
-pub fn policy(value: &Value) -> Result<bool, FieldFault>
+// Whether a policy is a reorder point with a lot.
+fn policy_of(value: &Value) -> Result<bool, FieldFault>
     ensures { result ≡ policy_in (view value.now) }
 {
     let Some(name) = value.as_str() else {
@@ -52,6 +54,48 @@ pub fn policy(value: &Value) -> Result<bool, FieldFault>
         return Ok(true);
     }
     Err(FieldFault::OutOfRange)
+}
+
+/// A discount a/b, as the list of a and b.
+#[derive(Clone, Copy)]
+pub struct Discount;
+
+impl Form for Discount {
+    ghost use Rattle.std.specs.Prelude.{⊤};
+
+    type Out = (u32, u32);
+
+    ghost reading = { λ _. discount_in };
+
+    ghost ready = { λ _. ⊤ };
+
+    ghost holds = { λ _ ratio. IsDiscount ratio.0 ratio.1 };
+
+    fn read(&self, _alloc: Global, value: &Value) -> Result<(u32, u32), FieldErr> {
+        let ratio = discount_of(value)?;
+        Ok(ratio)
+    }
+}
+
+/// Whether the policy asks for a reorder point with a lot, by its word.
+#[derive(Clone, Copy)]
+pub struct Policy;
+
+impl Form for Policy {
+    ghost use Rattle.std.specs.Prelude.{⊤};
+
+    type Out = bool;
+
+    ghost reading = { λ _. policy_in };
+
+    ghost ready = { λ _. ⊤ };
+
+    ghost holds = { λ _ _. ⊤ };
+
+    fn read(&self, _alloc: Global, value: &Value) -> Result<bool, FieldErr> {
+        let lots = policy_of(value)?;
+        Ok(lots)
+    }
 }
 
 // Whether each number is at least the one before it, and the first at least `low`.

@@ -1,48 +1,47 @@
-// The finite-horizon instance that an object says.
-ghost use Rattle.std.specs.Prelude.{◌≡◌, ◌≤ℤ◌, IfOk};
-ghost use Rattle.serde_json.specs.View.{view};
-ghost use Rattle.decision_model.specs.Finite.{IsReadableFinite};
-ghost use Rattle.decision_model.specs.Positions.{IsCap, IsPosition};
+// The text of a finite instance.
+ghost use Rattle.std.specs.Prelude.{◌≡◌, [], ◌++◌, IfOk, OnOk};
+ghost use Rattle.serde_json.specs.View.{view, members_view};
 ghost use Rattle.instance_json.specs.Faults.{Gives};
-ghost use Rattle.instance_json.specs.Keys.{has_keys};
-ghost use Rattle.instance_json.specs.Horizons.{finite_of, AreCostRates, finite_costs_of, cap_and_start_of, finite_needed, finite_known};
+ghost use Rattle.instance_json.specs.Members.{put_all, listed};
+ghost use Rattle.instance_json.specs.Finite.{AreCostRates, finite_costs_of, with_most, finite_to_lead, finite_from_periods};
 
-use crate::fault::InstanceErr;
-use crate::keys::{
-    amount_at, amount_or_zero, count_at, count_or_none, count_or_zero, discount_or_one, has_keys,
-    in_range, laws_at, position_at,
-};
-use crate::limits::{
-    MOST_CAP, MOST_LEAD, MOST_ORDER, MOST_PERIODS, MOST_RATE, MOST_SETUP, MOST_TOTAL,
-};
-use decision_model::Finite;
-use serde_json::Value;
-use std::alloc::Global;
+use crate::fault::{InstanceErr, InstanceFault};
+use crate::fields::Discount;
+use crate::form::{given, in_range, optional, required};
+use crate::keys::KeyRow::{Allowed, Needed};
+use crate::keys::{KeyRow, has_keys};
+use crate::kinds::KindText;
+use crate::laws::DemandLaws;
+use crate::numbers::{Amount, Cap, LEAD, PERIODS, Position, RATE, SETUP, TOTAL};
+use crate::write_values::{discount_value, laws_value, put_amounts, put_text};
+use decision_model::limits::MOST_ORDER;
+use decision_model::{Finite, Kind};
+use serde_json::{Map, Value, put};
+use std::alloc::{AllocError, Global};
 
-/// The object has the keys of the kind.
-pub fn finite_keys(alloc: Global, object: &Value) -> Result<(), InstanceErr>
-    ensures { Gives result (has_keys finite_needed finite_known (view object.now)) }
-{
-    let needed = ["periods", "holding", "stockout", "demand", "cap", "start"];
-    let known = [
-        "kind",
-        "periods",
-        "lead",
-        "setup",
-        "unit",
-        "holding",
-        "stockout",
-        "end_holding",
-        "end_stockout",
-        "discount",
-        "most",
-        "total",
-        "demand",
-        "cap",
-        "start",
-    ];
-    has_keys(alloc, object, &needed, &known)
-}
+// The greatest order of a period.
+const ORDER: Amount = Amount {
+    least: 1,
+    most: MOST_ORDER,
+};
+
+const KEYS: [KeyRow; 15] = [
+    Allowed("kind"),
+    Needed("periods"),
+    Allowed("lead"),
+    Allowed("setup"),
+    Allowed("unit"),
+    Needed("holding"),
+    Needed("stockout"),
+    Allowed("end_holding"),
+    Allowed("end_stockout"),
+    Allowed("discount"),
+    Allowed("most"),
+    Allowed("total"),
+    Needed("demand"),
+    Needed("cap"),
+    Needed("start"),
+];
 
 /// The cost rates of a finite horizon.
 #[derive(Clone, Copy)]
@@ -55,16 +54,17 @@ pub struct FiniteCosts {
     end_stockout: u64,
 }
 
+#[tactic(auto, using(crate::proofs::Chained::gives_refused, crate::proofs::Chained::gives_rest, crate::proofs::Chained::taken), unfolding(crate::specs::Finite::finite_costs_of))]
 fn finite_costs(alloc: Global, object: &Value) -> Result<FiniteCosts, InstanceErr>
     ensures value { Gives result (finite_costs_of (view object.now)) }
     ensures range { IfOk result AreCostRates }
 {
-    let setup = amount_or_zero(alloc, object, "setup", MOST_SETUP)?;
-    let unit = amount_or_zero(alloc, object, "unit", MOST_RATE)?;
-    let holding = amount_at(alloc, object, "holding", 0, MOST_RATE)?;
-    let stockout = amount_at(alloc, object, "stockout", 0, MOST_RATE)?;
-    let end_holding = amount_or_zero(alloc, object, "end_holding", MOST_RATE)?;
-    let end_stockout = amount_or_zero(alloc, object, "end_stockout", MOST_RATE)?;
+    let setup = optional(alloc, object, "setup", SETUP, 0)?;
+    let unit = optional(alloc, object, "unit", RATE, 0)?;
+    let holding = required(alloc, object, "holding", RATE)?;
+    let stockout = required(alloc, object, "stockout", RATE)?;
+    let end_holding = optional(alloc, object, "end_holding", RATE, 0)?;
+    let end_stockout = optional(alloc, object, "end_stockout", RATE, 0)?;
     Ok(FiniteCosts {
         setup,
         unit,
@@ -75,56 +75,96 @@ fn finite_costs(alloc: Global, object: &Value) -> Result<FiniteCosts, InstanceEr
     })
 }
 
-// The greatest position, and a start that is at most that.
-fn cap_and_start(alloc: Global, object: &Value) -> Result<(i64, i64), InstanceErr>
-    ensures value { Gives result (cap_and_start_of (view object.now)) }
-    ensures cap { IfOk result (λ range. IsCap range.0) }
-    ensures start { IfOk result (λ range. IsPosition range.1) }
-    ensures below { IfOk result (λ range. range.1 ≤ℤ range.0) }
+// All members of a finite horizon but the greatest order of a period.
+fn finite_members(alloc: Global, finite: &Finite) -> Result<Map<String, Value>, AllocError>
+    ensures { IfOk result (λ members. members_view members.entries
+        ≡ listed (finite_to_lead finite.now ++ finite_from_periods finite.now)) }
 {
-    let cap = amount_at(alloc, object, "cap", 0, MOST_CAP)?;
-    let start = position_at(alloc, object, "start")?;
-    in_range(alloc, "start", start <= cap as i64)?;
-    Ok((cap as i64, start))
+    let demand = laws_value(alloc, finite.laws.as_slice())?;
+    let discount = discount_value(alloc, finite.discount_num, finite.discount_den)?;
+    let mut members = Map::new(alloc);
+    put_text(&mut members, alloc, "kind", Kind::Finite.word())?;
+    put(&mut members, alloc, "demand", demand)?;
+    put(&mut members, alloc, "discount", discount)?;
+    put(&mut members, alloc, "cap", Value::from(finite.cap))?;
+    put(&mut members, alloc, "start", Value::from(finite.start))?;
+    let amounts = [
+        ("periods", u64::from(finite.periods)),
+        ("lead", u64::from(finite.lead)),
+        ("setup", finite.setup),
+        ("unit", finite.unit),
+        ("holding", finite.holding),
+        ("stockout", finite.stockout),
+        ("end_holding", finite.end_holding),
+        ("end_stockout", finite.end_stockout),
+    ];
+    put_amounts(&mut members, alloc, &amounts)?;
+    Ok(members)
 }
 
-fn widened(number: Option<u32>) -> Option<u64>
-    ensures { result ≡ number }
+// Puts the greatest order of a period, if there is one.
+fn put_most(
+    members: &mut Map<String, Value>,
+    alloc: Global,
+    most: Option<u64>,
+) -> Result<(), AllocError>
+    ensures { OnOk result (members_view members.new.entries
+        ≡ put_all (with_most most []) (members_view members.old.entries)) }
 {
-    match number {
-        Some(number) => Some(u64::from(number)),
-        None => None,
+    match most {
+        Some(order) => put(members, alloc, "most", Value::from(order)),
+        None => Ok(()),
     }
 }
 
-/// The values of the keys, in the order of the table.
-pub fn finite(alloc: Global, object: &Value) -> Result<Finite, InstanceErr>
-    ensures value { Gives result (finite_of (view object.now)) }
-    ensures readable { IfOk result IsReadableFinite }
-{
-    let periods = count_at(alloc, object, "periods", 1, MOST_PERIODS)?;
-    let lead = count_or_zero(alloc, object, "lead", MOST_LEAD)?;
-    let costs = finite_costs(alloc, object)?;
-    let (discount_num, discount_den) = discount_or_one(alloc, object)?;
-    let most = count_or_none(alloc, object, "most", MOST_ORDER)?;
-    let total = count_or_none(alloc, object, "total", MOST_TOTAL)?;
-    let places = periods as usize + lead as usize;
-    let laws = laws_at(alloc, object, "demand", places, total)?;
-    let (cap, start) = cap_and_start(alloc, object)?;
-    Ok(Finite {
-        periods,
-        lead,
-        setup: costs.setup,
-        unit: costs.unit,
-        holding: costs.holding,
-        stockout: costs.stockout,
-        end_holding: costs.end_holding,
-        end_stockout: costs.end_stockout,
-        discount_num,
-        discount_den,
-        laws,
-        cap,
-        start,
-        most: widened(most),
-    })
+impl KindText for Finite {
+    ghost use Rattle.instance_json.specs.Finite.{finite_text};
+
+    ghost text = { finite_text };
+
+    fn has_keys(alloc: Global, object: &Value) -> Result<(), InstanceErr> {
+        has_keys(alloc, object, &KEYS)
+    }
+
+    #[tactic(auto, using(crate::proofs::Chained::gives_refused, crate::proofs::Chained::gives_rest, crate::proofs::Chained::taken), unfolding(crate::specs::Finite::finite_of))]
+    fn read(alloc: Global, object: &Value) -> Result<Finite, InstanceErr> {
+        let periods = required(alloc, object, "periods", PERIODS)?;
+        let lead = optional(alloc, object, "lead", LEAD, 0)?;
+        let costs = finite_costs(alloc, object)?;
+        let (discount_num, discount_den) = optional(alloc, object, "discount", Discount, (1, 1))?;
+        let most = given(alloc, object, "most", ORDER)?;
+        let total = given(alloc, object, "total", TOTAL)?;
+        let places = periods as usize + lead as usize;
+        let laws = required(alloc, object, "demand", DemandLaws { places, total })?;
+        let cap = required(alloc, object, "cap", Cap)?;
+        let start = required(alloc, object, "start", Position)?;
+        in_range(alloc, "start", start <= cap)?;
+        Ok(Finite {
+            periods,
+            lead,
+            setup: costs.setup,
+            unit: costs.unit,
+            holding: costs.holding,
+            stockout: costs.stockout,
+            end_holding: costs.end_holding,
+            end_stockout: costs.end_stockout,
+            discount_num,
+            discount_den,
+            laws,
+            cap,
+            start,
+            most,
+        })
+    }
+
+    fn rules(&self) -> Result<(), InstanceFault> {
+        Ok(())
+    }
+
+    #[tactic(auto, unfolding(crate::specs::Finite::finite_data))]
+    fn to_value(&self, alloc: Global) -> Result<Value, AllocError> {
+        let mut members = finite_members(alloc, self)?;
+        put_most(&mut members, alloc, self.most)?;
+        Ok(Value::Object(members))
+    }
 }

@@ -8,11 +8,13 @@ ghost use Rattle.instance_json.specs.Faults.{GivesField};
 ghost use Rattle.instance_json.specs.LawTexts.{passes, is_tuple, key_count, law_text, text_passes, is_law, number_of, point_in, points_made, uniform_made, binomial_made, text_made, law_of, made_answer};
 
 use crate::fault::{FieldErr, FieldFault};
-use crate::limits::MOST_WORD;
-use crate::numbers::{amount, count, is_whole, items};
+use crate::numbers::{amount_of, count_of, is_whole, items};
 use demand_law::{Law, LawErr};
 use serde_json::Value;
 use std::alloc::Global;
+
+/// The greatest number of a law's text.
+pub const MOST_WORD: u32 = 4_294_967_295;
 
 /// How a law is given.
 #[derive(Clone, Copy)]
@@ -46,7 +48,7 @@ fn passes(test: NumberTest, value: &Value) -> bool
 {
     match test {
         NumberTest::Whole => is_whole(value),
-        NumberTest::Word => amount(value, 0, u64::from(MOST_WORD)).is_ok(),
+        NumberTest::Word => amount_of(value, 0, u64::from(MOST_WORD)).is_ok(),
     }
 }
 
@@ -152,7 +154,7 @@ fn number(value: &Value, place: usize) -> Result<u32, FieldFault>
     ensures { result ≡ number_of (at place (view value.now)) }
 {
     match value.get(place) {
-        Some(number) => count(number, 0, MOST_WORD),
+        Some(number) => count_of(number, 0, MOST_WORD),
         None => Err(FieldFault::WrongType),
     }
 }

@@ -3,11 +3,13 @@ ghost use Rattle.std.specs.Prelude.{◌≡◌, ◌≤◌, All, Some, None, Ok, E
 ghost use Rattle.std.specs.List.{list_all};
 ghost use Rattle.serde_json.specs.View.{view};
 ghost use Rattle.demand_law.specs.Named.{rescale_fault, rescaled_law};
+ghost use Rattle.decision_model.specs.declared.limits.TheConstants.{MOST_TOTAL};
 ghost use Rattle.decision_model.specs.DemandLaws.{IsDemandLaw, AreDemandLaws, common_total};
 ghost use Rattle.instance_json.specs.Faults.{GivesField};
 ghost use Rattle.instance_json.specs.LawTexts.{is_law, all_laws, law_in, made as made_of, common_sum, scaled_law, scaled_laws, one_law, laws_each, laws_in};
 
 use crate::fault::{FieldErr, FieldFault};
+use crate::form::Form;
 use crate::law_texts::{NumberTest, is_law, law_of, made};
 use crate::numbers::items;
 use decision_model::Laws;
@@ -42,8 +44,8 @@ fn check_laws(list: &[Value]) -> Result<(), FieldFault>
     Ok(())
 }
 
-/// The law that a value says.
-pub fn law(alloc: Global, value: &Value) -> Result<Law, FieldErr>
+// The law that a value says.
+fn law(alloc: Global, value: &Value) -> Result<Law, FieldErr>
     ensures value { GivesField result (law_in (view value.now)) }
     ensures demand { IfOk result IsDemandLaw }
 {
@@ -159,13 +161,7 @@ fn law_each(
     scaled_laws(alloc, list, total)
 }
 
-/// One law, which serves every place, or one a place, all at one sum of weights.
-pub fn laws(
-    alloc: Global,
-    value: &Value,
-    places: usize,
-    total: Option<u32>,
-) -> Result<Laws, FieldErr>
+fn laws(alloc: Global, value: &Value, places: usize, total: Option<u32>) -> Result<Laws, FieldErr>
     requires stated { IfSome total (λ n. 1 ≤ n) }
     requires within { IfSome total (λ n. n ≤ 1000000000) }
     ensures value { GivesField result (laws_in places total (view value.now)) }
@@ -174,5 +170,46 @@ pub fn laws(
     match items(value) {
         Some(list) => law_each(alloc, list, places, total),
         None => one_law(alloc, value, total),
+    }
+}
+
+/// A law of demand.
+#[derive(Clone, Copy)]
+pub struct DemandLaw;
+
+impl Form for DemandLaw {
+    ghost use Rattle.std.specs.Prelude.{⊤};
+
+    type Out = Law;
+
+    ghost reading = { λ _. law_in };
+
+    ghost ready = { λ _. ⊤ };
+
+    ghost holds = { λ _. IsDemandLaw };
+
+    fn read(&self, alloc: Global, value: &Value) -> Result<Law, FieldErr> {
+        law(alloc, value)
+    }
+}
+
+/// One law, which serves every place, or one a place, all at one sum of weights: the total, or that of the first law.
+#[derive(Clone, Copy)]
+pub struct DemandLaws {
+    pub places: usize,
+    pub total: Option<u32>,
+}
+
+impl Form for DemandLaws {
+    type Out = Laws;
+
+    ghost reading = { λ form. laws_in form.places form.total };
+
+    ghost ready = { λ form. IfSome form.total (λ n. (1 ≤ n) × (n ≤ MOST_TOTAL)) };
+
+    ghost holds = { λ form laws. AreDemandLaws laws form.places };
+
+    fn read(&self, alloc: Global, value: &Value) -> Result<Laws, FieldErr> {
+        laws(alloc, value, self.places, self.total)
     }
 }

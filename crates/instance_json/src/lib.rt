@@ -1,14 +1,18 @@
-//! Instances read from JSON text, with the first fault of a text that says none.
+//! Instances read from JSON text, with the first fault of a text that says none, and written as such text.
+//!
+//! A kind is one file, here, in the specs and in the proofs: its table of keys, its reading key by key, its rules over several
+//! keys, and its writing.
 #![tactic(auto)]
 
 mod average;
 mod fault;
 mod fields;
 mod finite;
+mod form;
 mod keys;
+mod kinds;
 mod law_texts;
 mod laws;
-mod limits;
 mod lots;
 mod news;
 mod numbers;
@@ -18,9 +22,6 @@ mod serial;
 #[cfg(test)]
 mod tests;
 mod write;
-mod write_kinds;
-#[cfg(test)]
-mod write_tests;
 mod write_values;
 
 pub use fault::{FieldErr, FieldFault, InstanceErr, InstanceFault, Key, KeyList};

@@ -1,48 +1,80 @@
-// The lot sizing that an object says.
-ghost use Rattle.std.specs.Prelude.{IfOk};
-ghost use Rattle.serde_json.specs.View.{view};
-ghost use Rattle.decision_model.specs.Lots.{IsReadableLots};
-ghost use Rattle.instance_json.specs.Faults.{Gives};
-ghost use Rattle.instance_json.specs.Keys.{has_keys};
-ghost use Rattle.instance_json.specs.Lots.{lots_of, lots_needed, lots_known};
+// The text of lot sizing.
+use crate::fault::{InstanceErr, InstanceFault};
+use crate::form::required;
+use crate::keys::KeyRow::{Allowed, Needed};
+use crate::keys::{KeyRow, has_keys};
+use crate::kinds::KindText;
+use crate::numbers::{Rates, SomeAmounts, rates_or_zero};
+use crate::write_values::{amounts_value, put_text};
+use decision_model::limits::{MOST_LOT_DEMAND, MOST_LOT_PERIODS, MOST_LOT_SETUP, MOST_RATE};
+use decision_model::{Kind, LotSize, speculative_period};
+use serde_json::{Map, Value, put};
+use std::alloc::{AllocError, Global};
 
-use crate::fault::InstanceErr;
-use crate::keys::{amounts_at, has_keys, rates_at, rates_or_zero};
-use crate::limits::{MOST_KNOWN_DEMAND, MOST_PERIODS_OF_LOTS, MOST_RATE, MOST_SETUP_OF_LOTS};
-use decision_model::LotSize;
-use serde_json::Value;
-use std::alloc::Global;
+const KEYS: [KeyRow; 5] = [
+    Allowed("kind"),
+    Needed("demand"),
+    Needed("setup"),
+    Needed("holding"),
+    Allowed("unit"),
+];
 
-// The object has the keys of the kind.
-pub fn lots_keys(alloc: Global, object: &Value) -> Result<(), InstanceErr>
-    ensures { Gives result (has_keys lots_needed lots_known (view object.now)) }
-{
-    let needed = ["demand", "setup", "holding"];
-    let known = ["kind", "demand", "setup", "holding", "unit"];
-    has_keys(alloc, object, &needed, &known)
-}
+impl KindText for LotSize {
+    ghost use Rattle.instance_json.specs.Lots.{lots_text};
 
-// The values of the keys, in the order of the table.
-pub fn lots(alloc: Global, object: &Value) -> Result<LotSize, InstanceErr>
-    ensures value { Gives result (lots_of (view object.now)) }
-    ensures readable { IfOk result IsReadableLots }
-{
-    let demand = amounts_at(
-        alloc,
-        object,
-        "demand",
-        MOST_KNOWN_DEMAND,
-        1,
-        MOST_PERIODS_OF_LOTS,
-    )?;
-    let periods = demand.as_slice().len();
-    let setup = rates_at(alloc, object, "setup", MOST_SETUP_OF_LOTS, periods)?;
-    let holding = rates_at(alloc, object, "holding", MOST_RATE, periods)?;
-    let unit = rates_or_zero(alloc, object, "unit", MOST_RATE, periods)?;
-    Ok(LotSize {
-        demand,
-        setup,
-        unit,
-        holding,
-    })
+    ghost text = { lots_text };
+
+    fn has_keys(alloc: Global, object: &Value) -> Result<(), InstanceErr> {
+        has_keys(alloc, object, &KEYS)
+    }
+
+    #[tactic(auto, using(crate::proofs::Chained::gives_refused, crate::proofs::Chained::gives_rest, crate::proofs::Chained::taken), unfolding(crate::specs::Lots::lots_of))]
+    fn read(alloc: Global, object: &Value) -> Result<LotSize, InstanceErr> {
+        let demand = SomeAmounts {
+            most_each: MOST_LOT_DEMAND,
+            least: 1,
+            most: MOST_LOT_PERIODS,
+        };
+        let demand = required(alloc, object, "demand", demand)?;
+        let periods = demand.as_slice().len();
+        let setups = Rates {
+            most: MOST_LOT_SETUP,
+            places: periods,
+        };
+        let setup = required(alloc, object, "setup", setups)?;
+        let rates = Rates {
+            most: MOST_RATE,
+            places: periods,
+        };
+        let holding = required(alloc, object, "holding", rates)?;
+        let unit = rates_or_zero(alloc, object, "unit", rates)?;
+        Ok(LotSize {
+            demand,
+            setup,
+            unit,
+            holding,
+        })
+    }
+
+    fn rules(&self) -> Result<(), InstanceFault> {
+        match speculative_period(self) {
+            Some(period) => Err(InstanceFault::Speculative(period)),
+            None => Ok(()),
+        }
+    }
+
+    #[tactic(auto, unfolding(crate::specs::Lots::lots_data))]
+    fn to_value(&self, alloc: Global) -> Result<Value, AllocError> {
+        let demand = amounts_value(alloc, self.demand.as_slice())?;
+        let holding = amounts_value(alloc, self.holding.as_slice())?;
+        let setup = amounts_value(alloc, self.setup.as_slice())?;
+        let unit = amounts_value(alloc, self.unit.as_slice())?;
+        let mut members = Map::new(alloc);
+        put_text(&mut members, alloc, "kind", Kind::Lots.word())?;
+        put(&mut members, alloc, "demand", demand)?;
+        put(&mut members, alloc, "holding", holding)?;
+        put(&mut members, alloc, "setup", setup)?;
+        put(&mut members, alloc, "unit", unit)?;
+        Ok(Value::Object(members))
+    }
 }

@@ -1,36 +1,58 @@
-// The newsvendor that an object says.
-ghost use Rattle.serde_json.specs.View.{view};
-ghost use Rattle.instance_json.specs.Faults.{Gives};
-ghost use Rattle.instance_json.specs.Keys.{has_keys};
-ghost use Rattle.instance_json.specs.News.{newsvendor_of, newsvendor_needed, newsvendor_known};
-
-use crate::fault::InstanceErr;
-use crate::keys::{amount_at, has_keys, in_range, law_at};
-use crate::limits::MOST_RATE;
+// The text of a newsvendor.
+use crate::fault::{InstanceErr, InstanceFault};
+use crate::form::{in_range, required};
+use crate::keys::KeyRow::{Allowed, Needed};
+use crate::keys::{KeyRow, has_keys};
+use crate::kinds::KindText;
+use crate::laws::DemandLaw;
+use crate::numbers::RATE;
+use crate::write_values::{law_value, put_amounts, put_text};
+use decision_model::Kind;
 use newsvendor::Newsvendor;
-use serde_json::Value;
-use std::alloc::Global;
+use serde_json::{Map, Value, put};
+use std::alloc::{AllocError, Global};
 
-/// The object has the keys of the kind.
-pub fn newsvendor_keys(alloc: Global, object: &Value) -> Result<(), InstanceErr>
-    ensures { Gives result (has_keys newsvendor_needed newsvendor_known (view object.now)) }
-{
-    let needed = ["holding", "stockout", "demand"];
-    let known = ["kind", "holding", "stockout", "demand"];
-    has_keys(alloc, object, &needed, &known)
-}
+const KEYS: [KeyRow; 4] = [
+    Allowed("kind"),
+    Needed("holding"),
+    Needed("stockout"),
+    Needed("demand"),
+];
 
-/// The values of the keys, in the order of the table.
-pub fn newsvendor(alloc: Global, object: &Value) -> Result<Newsvendor, InstanceErr>
-    ensures { Gives result (newsvendor_of (view object.now)) }
-{
-    let holding = amount_at(alloc, object, "holding", 0, MOST_RATE)?;
-    let stockout = amount_at(alloc, object, "stockout", 0, MOST_RATE)?;
-    in_range(alloc, "stockout", 0 < holding + stockout)?;
-    let law = law_at(alloc, object, "demand")?;
-    Ok(Newsvendor {
-        holding,
-        stockout,
-        law,
-    })
+impl KindText for Newsvendor {
+    ghost use Rattle.instance_json.specs.News.{news_text};
+
+    ghost text = { news_text };
+
+    fn has_keys(alloc: Global, object: &Value) -> Result<(), InstanceErr> {
+        has_keys(alloc, object, &KEYS)
+    }
+
+    #[tactic(auto, using(crate::proofs::Chained::gives_refused, crate::proofs::Chained::gives_rest, crate::proofs::Chained::taken), unfolding(crate::specs::News::news_of))]
+    fn read(alloc: Global, object: &Value) -> Result<Newsvendor, InstanceErr> {
+        let holding = required(alloc, object, "holding", RATE)?;
+        let stockout = required(alloc, object, "stockout", RATE)?;
+        in_range(alloc, "stockout", 0 < holding + stockout)?;
+        let law = required(alloc, object, "demand", DemandLaw)?;
+        Ok(Newsvendor {
+            holding,
+            stockout,
+            law,
+        })
+    }
+
+    fn rules(&self) -> Result<(), InstanceFault> {
+        Ok(())
+    }
+
+    #[tactic(auto, unfolding(crate::specs::News::news_data))]
+    fn to_value(&self, alloc: Global) -> Result<Value, AllocError> {
+        let demand = law_value(alloc, &self.law)?;
+        let mut members = Map::new(alloc);
+        put_text(&mut members, alloc, "kind", Kind::News.word())?;
+        put(&mut members, alloc, "demand", demand)?;
+        let rates = [("holding", self.holding), ("stockout", self.stockout)];
+        put_amounts(&mut members, alloc, &rates)?;
+        Ok(Value::Object(members))
+    }
 }

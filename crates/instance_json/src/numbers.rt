@@ -1,14 +1,19 @@
 // Whole numbers and lists of them.
-ghost use Rattle.std.specs.Prelude.{◌≡◌, ◌≤◌, length, map, All, Ok, Err, IfOk, MatchResult, option_map};
+ghost use Rattle.std.specs.Prelude.{◌≡◌, ◌≤◌, length, map, All, Ok, Err, IfOk, IfErr, MatchResult, option_map, replicate};
 ghost use Rattle.std.specs.List.{list_all};
 ghost use Rattle.serde_json.specs.View.{view};
-ghost use Rattle.decision_model.specs.Positions.{IsPosition};
+ghost use Rattle.decision_model.specs.Positions.{IsPosition, IsCap};
 ghost use Rattle.instance_json.specs.Steps.{each};
-ghost use Rattle.instance_json.specs.Faults.{GivesField};
-ghost use Rattle.instance_json.specs.Numbers.{is_whole, items_in, all_whole, amount_in, position_in, amounts_in, positions_in, of_length_within, some_amounts_in, start_positions_in, rates_in};
+ghost use Rattle.instance_json.specs.Faults.{Gives, GivesField};
+ghost use Rattle.instance_json.specs.Keys.{optional};
+ghost use Rattle.instance_json.specs.Numbers.{is_whole, items_in, all_whole, amount_in, position_in, cap_in, amounts_in, positions_in, of_length_within, some_amounts_in, start_positions_in, rates_in};
 
-use crate::fault::{FieldErr, FieldFault};
-use crate::limits::{LEAST_POSITION, MOST_POSITION};
+use crate::fault::{FieldErr, FieldFault, InstanceErr};
+use crate::form::{Form, given};
+use decision_model::limits::{
+    LEAST_POSITION, MOST_CAP, MOST_LEAD, MOST_PERIODS, MOST_POSITION, MOST_RATE, MOST_SETUP,
+    MOST_TOTAL,
+};
 use decision_model::{Amounts, Positions};
 use serde_json::Value;
 use std::alloc::Global;
@@ -21,7 +26,7 @@ pub fn is_whole(value: &Value) -> bool
 }
 
 // A whole number from `least` to `most`.
-pub fn amount(value: &Value, least: u64, most: u64) -> Result<u64, FieldFault>
+pub fn amount_of(value: &Value, least: u64, most: u64) -> Result<u64, FieldFault>
     ensures value { result ≡ amount_in least most (view value.now) }
     ensures least { IfOk result (λ number. least ≤ number) }
     ensures most { IfOk result (λ number. number ≤ most) }
@@ -42,17 +47,17 @@ pub fn amount(value: &Value, least: u64, most: u64) -> Result<u64, FieldFault>
 }
 
 // A whole number from `least` to `most`.
-pub fn count(value: &Value, least: u32, most: u32) -> Result<u32, FieldFault>
+pub fn count_of(value: &Value, least: u32, most: u32) -> Result<u32, FieldFault>
     ensures value { result ≡ amount_in least most (view value.now) }
     ensures least { IfOk result (λ number. least ≤ number) }
     ensures most { IfOk result (λ number. number ≤ most) }
 {
-    let number = amount(value, u64::from(least), u64::from(most))?;
+    let number = amount_of(value, u64::from(least), u64::from(most))?;
     Ok(number as u32)
 }
 
 // A whole number from -1,000,000 to 1,000,000.
-pub fn position(value: &Value) -> Result<i64, FieldFault>
+fn position_of(value: &Value) -> Result<i64, FieldFault>
     ensures value { result ≡ position_in (view value.now) }
     ensures range { IfOk result IsPosition }
 {
@@ -69,6 +74,15 @@ pub fn position(value: &Value) -> Result<i64, FieldFault>
         return Err(FieldFault::OutOfRange);
     }
     Ok(number)
+}
+
+// A whole number from 0 to 1,000,000.
+fn cap_of(value: &Value) -> Result<i64, FieldFault>
+    ensures value { result ≡ cap_in (view value.now) }
+    ensures range { IfOk result IsCap }
+{
+    let number = amount_of(value, 0, MOST_CAP)?;
+    Ok(number as i64)
 }
 
 // Whether all items are whole numbers.
@@ -89,7 +103,7 @@ fn listed_amounts(alloc: Global, list: &[Value], most: u64) -> Result<Amounts, F
 {
     let mut numbers = Vec::new(alloc);
     for value in list {
-        let number = amount(value, 0, most)?;
+        let number = amount_of(value, 0, most)?;
         numbers.push(number)?;
     }
     Ok(Amounts::new(numbers))
@@ -101,7 +115,7 @@ fn listed_positions(alloc: Global, list: &[Value]) -> Result<Positions, FieldErr
 {
     let mut numbers = Vec::new(alloc);
     for value in list {
-        let number = position(value)?;
+        let number = position_of(value)?;
         numbers.push(number)?;
     }
     Ok(Positions::new(numbers))
@@ -168,7 +182,7 @@ fn of_length_within(list: Amounts, least: usize, most: usize) -> Result<Amounts,
 }
 
 // A list of amounts from 0 to `most_each`, as many as from `least` to `most`.
-pub fn some_amounts(
+fn some_amounts(
     alloc: Global,
     value: &Value,
     most_each: u64,
@@ -185,7 +199,7 @@ pub fn some_amounts(
 }
 
 // One position a place.
-pub fn start_positions(alloc: Global, value: &Value, places: usize) -> Result<Positions, FieldErr>
+fn start_positions(alloc: Global, value: &Value, places: usize) -> Result<Positions, FieldErr>
     ensures value { GivesField result (start_positions_in places (view value.now)) }
     ensures range { IfOk result (All IsPosition) }
     ensures places { IfOk result (λ list. length list ≡ places) }
@@ -198,7 +212,7 @@ pub fn start_positions(alloc: Global, value: &Value, places: usize) -> Result<Po
 }
 
 // One rate from 0 to `most` a place, or one that serves every place.
-pub fn rates(alloc: Global, value: &Value, most: u64, places: usize) -> Result<Amounts, FieldErr>
+fn rates_of(alloc: Global, value: &Value, most: u64, places: usize) -> Result<Amounts, FieldErr>
     ensures value { GivesField result (rates_in most places (view value.now)) }
     ensures range { IfOk result (All (λ rate. rate ≤ most)) }
     ensures places { IfOk result (λ list. length list ≡ places) }
@@ -206,7 +220,225 @@ pub fn rates(alloc: Global, value: &Value, most: u64, places: usize) -> Result<A
     if value.is_array() {
         return some_amounts(alloc, value, most, places, places);
     }
-    let rate = amount(value, 0, most)?;
+    let rate = amount_of(value, 0, most)?;
     let items = vec![in alloc; rate; places]?;
     Ok(Amounts::new(items))
+}
+
+/// A whole number in a range.
+#[derive(Clone, Copy)]
+pub struct Amount {
+    pub least: u64,
+    pub most: u64,
+}
+
+impl Form for Amount {
+    ghost use Rattle.std.specs.Prelude.{⊤};
+
+    type Out = u64;
+
+    ghost reading = { λ form. amount_in form.least form.most };
+
+    ghost ready = { λ _. ⊤ };
+
+    ghost holds = { λ form. (λ number. (form.least ≤ number) × (number ≤ form.most)) };
+
+    fn read(&self, _alloc: Global, value: &Value) -> Result<u64, FieldErr> {
+        let number = amount_of(value, self.least, self.most)?;
+        Ok(number)
+    }
+}
+
+/// A cost rate per unit.
+pub const RATE: Amount = Amount {
+    least: 0,
+    most: MOST_RATE,
+};
+
+/// A setup cost over a horizon of uncertain demand.
+pub const SETUP: Amount = Amount {
+    least: 0,
+    most: MOST_SETUP,
+};
+
+/// A small whole number in a range.
+#[derive(Clone, Copy)]
+pub struct Count {
+    pub least: u32,
+    pub most: u32,
+}
+
+impl Form for Count {
+    ghost use Rattle.std.specs.Prelude.{⊤};
+
+    type Out = u32;
+
+    ghost reading = { λ form. amount_in form.least form.most };
+
+    ghost ready = { λ _. ⊤ };
+
+    ghost holds = { λ form. (λ number. (form.least ≤ number) × (number ≤ form.most)) };
+
+    fn read(&self, _alloc: Global, value: &Value) -> Result<u32, FieldErr> {
+        let number = count_of(value, self.least, self.most)?;
+        Ok(number)
+    }
+}
+
+/// The periods of a horizon of uncertain demand.
+pub const PERIODS: Count = Count {
+    least: 1,
+    most: MOST_PERIODS,
+};
+
+/// A lead time.
+pub const LEAD: Count = Count {
+    least: 0,
+    most: MOST_LEAD,
+};
+
+/// The sum of weights that all laws get.
+pub const TOTAL: Count = Count {
+    least: 1,
+    most: MOST_TOTAL,
+};
+
+/// A position.
+#[derive(Clone, Copy)]
+pub struct Position;
+
+impl Form for Position {
+    ghost use Rattle.std.specs.Prelude.{⊤};
+
+    type Out = i64;
+
+    ghost reading = { λ _. position_in };
+
+    ghost ready = { λ _. ⊤ };
+
+    ghost holds = { λ _. IsPosition };
+
+    fn read(&self, _alloc: Global, value: &Value) -> Result<i64, FieldErr> {
+        let number = position_of(value)?;
+        Ok(number)
+    }
+}
+
+/// A cap, from 0.
+#[derive(Clone, Copy)]
+pub struct Cap;
+
+impl Form for Cap {
+    ghost use Rattle.std.specs.Prelude.{⊤};
+
+    type Out = i64;
+
+    ghost reading = { λ _. cap_in };
+
+    ghost ready = { λ _. ⊤ };
+
+    ghost holds = { λ _. IsCap };
+
+    fn read(&self, _alloc: Global, value: &Value) -> Result<i64, FieldErr> {
+        let number = cap_of(value)?;
+        Ok(number)
+    }
+}
+
+/// A list of numbers from 0 to `most_each`, as many as from `least` to `most`.
+#[derive(Clone, Copy)]
+pub struct SomeAmounts {
+    pub most_each: u64,
+    pub least: usize,
+    pub most: usize,
+}
+
+impl Form for SomeAmounts {
+    ghost use Rattle.std.specs.Prelude.{⊤};
+
+    type Out = Amounts;
+
+    ghost reading = { λ form. some_amounts_in form.most_each form.least form.most };
+
+    ghost ready = { λ _. ⊤ };
+
+    ghost holds = { λ form. (λ list. All (λ number. number ≤ form.most_each) list × (form.least ≤ length list) × (length list ≤ form.most)) };
+
+    fn read(&self, alloc: Global, value: &Value) -> Result<Amounts, FieldErr> {
+        some_amounts(alloc, value, self.most_each, self.least, self.most)
+    }
+}
+
+/// One position a place.
+#[derive(Clone, Copy)]
+pub struct StartPositions {
+    pub places: usize,
+}
+
+impl Form for StartPositions {
+    ghost use Rattle.std.specs.Prelude.{⊤};
+
+    type Out = Positions;
+
+    ghost reading = { λ form. start_positions_in form.places };
+
+    ghost ready = { λ _. ⊤ };
+
+    ghost holds = { λ form. (λ list. All IsPosition list × (length list ≡ form.places)) };
+
+    fn read(&self, alloc: Global, value: &Value) -> Result<Positions, FieldErr> {
+        start_positions(alloc, value, self.places)
+    }
+}
+
+/// One rate from 0 to `most` a place, or one that serves every place.
+#[derive(Clone, Copy)]
+pub struct Rates {
+    pub most: u64,
+    pub places: usize,
+}
+
+impl Form for Rates {
+    ghost use Rattle.std.specs.Prelude.{⊤};
+
+    type Out = Amounts;
+
+    ghost reading = { λ form. rates_in form.most form.places };
+
+    ghost ready = { λ _. ⊤ };
+
+    ghost holds = { λ form. (λ list. All (λ rate. rate ≤ form.most) list × (length list ≡ form.places)) };
+
+    fn read(&self, alloc: Global, value: &Value) -> Result<Amounts, FieldErr> {
+        rates_of(alloc, value, self.most, self.places)
+    }
+}
+
+// A rate of 0 a place.
+fn zeros(alloc: Global, places: usize) -> Result<Amounts, InstanceErr>
+    ensures ok { IfOk result (λ rates. rates ≡ replicate places 0) }
+    ensures err { IfErr result (λ e. e ≡ InstanceErr.Memory) }
+{
+    match vec![in alloc; 0; places] {
+        Ok(rates) => Ok(Amounts::new(rates)),
+        Err(_) => Err(InstanceErr::Memory),
+    }
+}
+
+/// The rates under a key, or 0 a place where it is absent.
+#[tactic(auto, using(crate::proofs::Chained::gives_refused, crate::proofs::Chained::gives_rest, crate::proofs::Chained::taken))]
+pub fn rates_or_zero(
+    alloc: Global,
+    object: &Value,
+    name: &str,
+    form: Rates,
+) -> Result<Amounts, InstanceErr>
+    ensures value { Gives result (optional (rates_in form.most form.places) (replicate form.places 0) name.now (view object.now)) }
+    ensures range { IfOk result (All (λ rate. rate ≤ form.most)) }
+    ensures places { IfOk result (λ list. length list ≡ form.places) }
+{
+    match given(alloc, object, name, form)? {
+        Some(rates) => Ok(rates),
+        None => zeros(alloc, form.places),
+    }
 }

@@ -1,78 +1,104 @@
-// The serial system that an object says.
-ghost use Rattle.std.specs.Prelude.{◌≡◌, ◌-◌, ◌≤ℤ◌, pos, length, slice_index_or, All, IfOk};
-ghost use Rattle.serde_json.specs.View.{view};
-ghost use Rattle.std.specs.List.{AllAdjacentBelow};
-ghost use Rattle.decision_model.specs.Positions.{IsCap, IsPosition};
-ghost use Rattle.decision_model.specs.Serial.{IsReadableSerial};
-ghost use Rattle.instance_json.specs.Faults.{Gives};
-ghost use Rattle.instance_json.specs.Keys.{has_keys};
-ghost use Rattle.instance_json.specs.Serials.{serial_of, cap_and_starts_of, serial_needed, serial_known};
-
-use crate::fault::InstanceErr;
-use crate::fields::is_start;
-use crate::keys::{
-    amount_at, amounts_at, count_at, count_or_none, discount_or_one, has_keys, in_range, laws_at,
-    rates_or_zero, start_at,
+// The text of a serial system.
+use crate::fault::{InstanceErr, InstanceFault};
+use crate::fields::{Discount, is_start};
+use crate::form::{given, in_range, optional, required};
+use crate::keys::KeyRow::{Allowed, Needed};
+use crate::keys::{KeyRow, has_keys};
+use crate::kinds::KindText;
+use crate::laws::DemandLaws;
+use crate::numbers::{
+    Cap, PERIODS, RATE, Rates, SomeAmounts, StartPositions, TOTAL, rates_or_zero,
 };
-use crate::limits::{MOST_CAP, MOST_ECHELONS, MOST_PERIODS, MOST_RATE, MOST_TOTAL};
-use decision_model::{Positions, Serial};
-use serde_json::Value;
-use std::alloc::Global;
+use crate::write_values::{
+    amounts_value, discount_value, laws_value, positions_value, put_amounts, put_text,
+};
+use decision_model::limits::{MOST_ECHELONS, MOST_RATE};
+use decision_model::{Kind, Serial};
+use serde_json::{Map, Value, put};
+use std::alloc::{AllocError, Global};
 
-/// The object has the keys of the kind.
-pub fn serial_keys(alloc: Global, object: &Value) -> Result<(), InstanceErr>
-    ensures { Gives result (has_keys serial_needed serial_known (view object.now)) }
-{
-    let needed = ["periods", "holding", "stockout", "demand", "cap", "start"];
-    let known = [
-        "kind", "periods", "holding", "unit", "stockout", "discount", "total", "demand", "cap",
-        "start",
-    ];
-    has_keys(alloc, object, &needed, &known)
-}
+const KEYS: [KeyRow; 10] = [
+    Allowed("kind"),
+    Needed("periods"),
+    Needed("holding"),
+    Allowed("unit"),
+    Needed("stockout"),
+    Allowed("discount"),
+    Allowed("total"),
+    Needed("demand"),
+    Needed("cap"),
+    Needed("start"),
+];
 
-// The greatest echelon stock, and one start an echelon that never falls and is at most that.
-fn cap_and_starts(
-    alloc: Global,
-    object: &Value,
-    echelons: usize,
-) -> Result<(i64, Positions), InstanceErr>
-    ensures value { Gives result (cap_and_starts_of echelons (view object.now)) }
-    ensures cap { IfOk result (λ range. IsCap range.0) }
-    ensures start { IfOk result (λ range. All IsPosition range.1) }
-    ensures places { IfOk result (λ range. length range.1 ≡ echelons) }
-    ensures never_falling { IfOk result (λ range. AllAdjacentBelow (λ x y. x ≤ℤ y) range.1 (length range.1)) }
-    ensures last_below { IfOk result (λ range. slice_index_or range.1 (length range.1 - 1) (pos 0) ≤ℤ range.0) }
-{
-    let cap = amount_at(alloc, object, "cap", 0, MOST_CAP)?;
-    let start = start_at(alloc, object, "start", echelons)?;
-    in_range(alloc, "start", is_start(cap as i64, start.as_slice()))?;
-    Ok((cap as i64, start))
-}
+impl KindText for Serial {
+    ghost use Rattle.instance_json.specs.Serial.{serial_text};
 
-/// The values of the keys, in the order of the table.
-pub fn serial(alloc: Global, object: &Value) -> Result<Serial, InstanceErr>
-    ensures value { Gives result (serial_of (view object.now)) }
-    ensures readable { IfOk result IsReadableSerial }
-{
-    let periods = count_at(alloc, object, "periods", 1, MOST_PERIODS)?;
-    let holding = amounts_at(alloc, object, "holding", MOST_RATE, 1, MOST_ECHELONS)?;
-    let echelons = holding.as_slice().len();
-    let unit = rates_or_zero(alloc, object, "unit", MOST_RATE, echelons)?;
-    let stockout = amount_at(alloc, object, "stockout", 0, MOST_RATE)?;
-    let (discount_num, discount_den) = discount_or_one(alloc, object)?;
-    let total = count_or_none(alloc, object, "total", MOST_TOTAL)?;
-    let laws = laws_at(alloc, object, "demand", periods as usize, total)?;
-    let (cap, start) = cap_and_starts(alloc, object, echelons)?;
-    Ok(Serial {
-        periods,
-        holding,
-        unit,
-        stockout,
-        discount_num,
-        discount_den,
-        laws,
-        cap,
-        start,
-    })
+    ghost text = { serial_text };
+
+    fn has_keys(alloc: Global, object: &Value) -> Result<(), InstanceErr> {
+        has_keys(alloc, object, &KEYS)
+    }
+
+    #[tactic(auto, using(crate::proofs::Chained::gives_refused, crate::proofs::Chained::gives_rest, crate::proofs::Chained::taken), unfolding(crate::specs::Serial::serial_of))]
+    fn read(alloc: Global, object: &Value) -> Result<Serial, InstanceErr> {
+        let periods = required(alloc, object, "periods", PERIODS)?;
+        let holding = SomeAmounts {
+            most_each: MOST_RATE,
+            least: 1,
+            most: MOST_ECHELONS,
+        };
+        let holding = required(alloc, object, "holding", holding)?;
+        let echelons = holding.as_slice().len();
+        let rates = Rates {
+            most: MOST_RATE,
+            places: echelons,
+        };
+        let unit = rates_or_zero(alloc, object, "unit", rates)?;
+        let stockout = required(alloc, object, "stockout", RATE)?;
+        let (discount_num, discount_den) = optional(alloc, object, "discount", Discount, (1, 1))?;
+        let total = given(alloc, object, "total", TOTAL)?;
+        let places = periods as usize;
+        let laws = required(alloc, object, "demand", DemandLaws { places, total })?;
+        let cap = required(alloc, object, "cap", Cap)?;
+        let start = required(alloc, object, "start", StartPositions { places: echelons })?;
+        in_range(alloc, "start", is_start(cap, start.as_slice()))?;
+        Ok(Serial {
+            periods,
+            holding,
+            unit,
+            stockout,
+            discount_num,
+            discount_den,
+            laws,
+            cap,
+            start,
+        })
+    }
+
+    fn rules(&self) -> Result<(), InstanceFault> {
+        Ok(())
+    }
+
+    #[tactic(auto, unfolding(crate::specs::Serial::serial_data))]
+    fn to_value(&self, alloc: Global) -> Result<Value, AllocError> {
+        let demand = laws_value(alloc, self.laws.as_slice())?;
+        let discount = discount_value(alloc, self.discount_num, self.discount_den)?;
+        let holding = amounts_value(alloc, self.holding.as_slice())?;
+        let unit = amounts_value(alloc, self.unit.as_slice())?;
+        let start = positions_value(alloc, self.start.as_slice())?;
+        let mut members = Map::new(alloc);
+        put_text(&mut members, alloc, "kind", Kind::Serial.word())?;
+        put(&mut members, alloc, "demand", demand)?;
+        put(&mut members, alloc, "discount", discount)?;
+        put(&mut members, alloc, "holding", holding)?;
+        put(&mut members, alloc, "unit", unit)?;
+        put(&mut members, alloc, "start", start)?;
+        put(&mut members, alloc, "cap", Value::from(self.cap))?;
+        let amounts = [
+            ("periods", u64::from(self.periods)),
+            ("stockout", self.stockout),
+        ];
+        put_amounts(&mut members, alloc, &amounts)?;
+        Ok(Value::Object(members))
+    }
 }

@@ -1,12 +1,10 @@
 // Worked instances and refusals.
-use crate::{InstanceErr, InstanceFault, read_instance};
-use decision_model::{Average, Finite, Instance, LotSize, Serial};
+use crate::{InstanceErr, InstanceFault, read_instance, write_instance};
 use demand_law::LawFault;
-use newsvendor::Newsvendor;
 use std::alloc::Global;
 use std::process::Abort;
 
-// A fault's words, and the name of the key that it tells.
+// A fault's words, and the name of its key.
 fn words(fault: &InstanceFault) -> (&'static str, &[u8]) {
     match fault {
         InstanceFault::NotJson => ("not JSON", &[]),
@@ -42,19 +40,19 @@ fn law_words(fault: &LawFault) -> &'static str {
     }
 }
 
-// The text is refused in these words, told of this key; an empty name is no key.
-fn refused(rt: &impl Abort, alloc: Global, text: &str, name: &str, told: &str) {
+// The text is refused in these words, with this key; an empty name is no key.
+fn refused(rt: &impl Abort, alloc: Global, text: &str, name: &str, reason: &str) {
     let Err(InstanceErr::Bad(fault)) = read_instance(alloc, text.as_bytes()) else {
         panic!(rt; "{text} is not refused");
     };
     let (found, key) = words(&fault);
-    assert!(rt; found == told, "{text}");
+    assert!(rt; found == reason, "{text}");
     assert!(rt; key == name.as_bytes());
 }
 
 #[test]
 fn refuses_a_text_without_a_kind(rt: HostRuntime) {
-    for (text, told) in [
+    for (text, reason) in [
         ("", "not JSON"),
         ("{\"kind\":1e400}", "not JSON"),
         ("[]", "unknown kind"),
@@ -63,13 +61,13 @@ fn refuses_a_text_without_a_kind(rt: HostRuntime) {
         ("{\"kind\":\"Lots\"}", "unknown kind"),
         ("{\"kind\":\"network\"}", "not built yet"),
     ] {
-        refused(&rt, rt.alloc(), text, "", told);
+        refused(&rt, rt.alloc(), text, "", reason);
     }
 }
 
 #[test]
 fn refuses_a_newsvendor(rt: HostRuntime) {
-    for (text, name, told) in [
+    for (text, name, reason) in [
         (
             "{\"kind\":\"newsvendor\",\"aa\":1,\"stockout\":9}",
             "holding",
@@ -141,13 +139,13 @@ fn refuses_a_newsvendor(rt: HostRuntime) {
             "wrong type",
         ),
     ] {
-        refused(&rt, rt.alloc(), text, name, told);
+        refused(&rt, rt.alloc(), text, name, reason);
     }
 }
 
 #[test]
 fn refuses_lots(rt: HostRuntime) {
-    for (text, name, told) in [
+    for (text, name, reason) in [
         (
             "{\"kind\":\"lots\",\"demand\":[],\"setup\":1,\"holding\":1}",
             "demand",
@@ -174,13 +172,13 @@ fn refuses_lots(rt: HostRuntime) {
             "period 1: speculative cost",
         ),
     ] {
-        refused(&rt, rt.alloc(), text, name, told);
+        refused(&rt, rt.alloc(), text, name, reason);
     }
 }
 
 #[test]
 fn refuses_a_finite_horizon(rt: HostRuntime) {
-    for (text, name, told) in [
+    for (text, name, reason) in [
         (
             "{\"kind\":\"finite\",\"periods\":2,\"lead\":null,\"holding\":1,\"stockout\":3,\"demand\":{\"uniform\":[0,1]},\"cap\":2,\"start\":0}",
             "lead",
@@ -222,13 +220,13 @@ fn refuses_a_finite_horizon(rt: HostRuntime) {
             "too wide",
         ),
     ] {
-        refused(&rt, rt.alloc(), text, name, told);
+        refused(&rt, rt.alloc(), text, name, reason);
     }
 }
 
 #[test]
 fn refuses_an_average_cost_or_a_serial_system(rt: HostRuntime) {
-    for (text, name, told) in [
+    for (text, name, reason) in [
         (
             "{\"kind\":\"average\",\"holding\":1,\"stockout\":3,\"demand\":{\"points\":[[0,5]]},\"floor\":0,\"cap\":2,\"policy\":\"rQ\"}",
             "",
@@ -280,157 +278,67 @@ fn refuses_an_average_cost_or_a_serial_system(rt: HostRuntime) {
             "out of range",
         ),
     ] {
-        refused(&rt, rt.alloc(), text, name, told);
+        refused(&rt, rt.alloc(), text, name, reason);
     }
 }
 
-fn newsvendor(rt: &impl Abort, alloc: Global, text: &str) -> Newsvendor {
-    match read_instance(alloc, text.as_bytes()) {
-        Ok(Instance::News(item)) => item,
-        _ => panic!(rt; "{text} is no newsvendor"),
+// The text says an instance that is written as this text.
+fn is_written(rt: &impl Abort, alloc: Global, text: &str, written: &str) {
+    let Ok(instance) = read_instance(alloc, text.as_bytes()) else {
+        panic!(rt; "{text} is refused");
+    };
+    match write_instance(alloc, &instance) {
+        Ok(bytes) => assert!(rt; bytes.as_slice() == written.as_bytes(), "{text}"),
+        Err(_) => panic!(rt; "no memory"),
     }
 }
 
+// Of a repeated key the last counts, and absent keys have their defaults.
 #[test]
-fn reads_a_newsvendor(rt: HostRuntime) {
-    // Of a repeated key the last counts.
-    let item = newsvendor(
-        &rt,
-        rt.alloc(),
-        "{\"kind\":\"newsvendor\",\"holding\":9,\"stockout\":3,\"demand\":{\"points\":[[3,2],[0,1]]},\"holding\":1}",
-    );
-    assert!(rt; item.holding == 1 && item.stockout == 3, "the rates");
-    assert_eq!(rt; item.law.weights(), [1, 0, 0, 2].as_slice());
-    let item = newsvendor(
-        &rt,
-        rt.alloc(),
-        "{\"kind\":\"newsvendor\",\"holding\":0,\"stockout\":1000000,\"demand\":{\"binomial\":[2,1,2]}}",
-    );
-    assert_eq!(rt; item.law.weights(), [1, 2, 1].as_slice());
-}
-
-fn lots(rt: &impl Abort, alloc: Global, text: &str) -> LotSize {
-    match read_instance(alloc, text.as_bytes()) {
-        Ok(Instance::Lots(item)) => item,
-        _ => panic!(rt; "{text} is no lot sizing"),
+fn reads_and_writes(rt: HostRuntime) {
+    for (text, written) in [
+        (
+            "{\"kind\":\"newsvendor\",\"holding\":9,\"stockout\":3,\"demand\":{\"points\":[[3,2],[0,1]]},\"holding\":1}",
+            "{\"demand\":{\"points\":[[0,1],[3,2]]},\"holding\":1,\"kind\":\"newsvendor\",\"stockout\":3}",
+        ),
+        (
+            "{\"kind\":\"newsvendor\",\"holding\":0,\"stockout\":1000000,\"demand\":{\"binomial\":[2,1,2]}}",
+            "{\"demand\":{\"points\":[[0,1],[1,2],[2,1]]},\"holding\":0,\"kind\":\"newsvendor\",\"stockout\":1000000}",
+        ),
+        (
+            "{\"kind\":\"lots\",\"demand\":[90,0,80],\"setup\":500,\"holding\":[2,1,3]}",
+            "{\"demand\":[90,0,80],\"holding\":[2,1,3],\"kind\":\"lots\",\"setup\":[500,500,500],\"unit\":[0,0,0]}",
+        ),
+        (
+            "{\"kind\":\"lots\",\"demand\":[10,0,20],\"setup\":[5,5,6],\"holding\":1,\"unit\":[0,1,2]}",
+            "{\"demand\":[10,0,20],\"holding\":[1,1,1],\"kind\":\"lots\",\"setup\":[5,5,6],\"unit\":[0,1,2]}",
+        ),
+        (
+            "{\"kind\":\"finite\",\"periods\":2,\"holding\":1,\"stockout\":3,\"demand\":{\"points\":[[0,1],[1,1]]},\"cap\":2,\"start\":2}",
+            "{\"cap\":2,\"demand\":{\"points\":[[0,1],[1,1]]},\"discount\":[1,1],\"end_holding\":0,\"end_stockout\":0,\"holding\":1,\"kind\":\"finite\",\"lead\":0,\"periods\":2,\"setup\":0,\"start\":2,\"stockout\":3,\"unit\":0}",
+        ),
+        (
+            "{\"kind\":\"finite\",\"periods\":1,\"lead\":1,\"setup\":7,\"unit\":2,\"holding\":1,\"stockout\":3,\"end_holding\":4,\"end_stockout\":5,\"discount\":[1,2],\"most\":6,\"total\":4,\"demand\":[{\"uniform\":[0,1]},{\"points\":[[1,1]]}],\"cap\":9,\"start\":-8}",
+            "{\"cap\":9,\"demand\":[{\"points\":[[0,2],[1,2]]},{\"points\":[[1,4]]}],\"discount\":[1,2],\"end_holding\":4,\"end_stockout\":5,\"holding\":1,\"kind\":\"finite\",\"lead\":1,\"most\":6,\"periods\":1,\"setup\":7,\"start\":-8,\"stockout\":3,\"unit\":2}",
+        ),
+        (
+            "{\"kind\":\"average\",\"setup\":1,\"holding\":1,\"stockout\":3,\"demand\":{\"points\":[[0,1],[1,1]]},\"floor\":0,\"cap\":1999,\"policy\":\"rQ\"}",
+            "{\"cap\":1999,\"demand\":{\"points\":[[0,1],[1,1]]},\"floor\":0,\"holding\":1,\"kind\":\"average\",\"lead\":0,\"policy\":\"rQ\",\"setup\":1,\"stockout\":3}",
+        ),
+        (
+            "{\"kind\":\"average\",\"holding\":1,\"stockout\":3,\"demand\":{\"uniform\":[0,2]},\"floor\":-2,\"cap\":-2}",
+            "{\"cap\":-2,\"demand\":{\"points\":[[0,1],[1,1],[2,1]]},\"floor\":-2,\"holding\":1,\"kind\":\"average\",\"lead\":0,\"policy\":\"sS\",\"setup\":0,\"stockout\":3}",
+        ),
+        (
+            "{\"kind\":\"serial\",\"periods\":2,\"holding\":[1,2],\"unit\":3,\"stockout\":4,\"total\":6,\"demand\":{\"points\":[[0,1],[1,1]]},\"cap\":2,\"start\":[2,2]}",
+            "{\"cap\":2,\"demand\":{\"points\":[[0,3],[1,3]]},\"discount\":[1,1],\"holding\":[1,2],\"kind\":\"serial\",\"periods\":2,\"start\":[2,2],\"stockout\":4,\"unit\":[3,3]}",
+        ),
+        (
+            "{\"kind\":\"serial\",\"periods\":2,\"holding\":[1,2],\"unit\":[0,8],\"stockout\":9,\"demand\":[{\"uniform\":[0,1]},{\"points\":[[1,1]]}],\"cap\":6,\"start\":[-1,3]}",
+            "{\"cap\":6,\"demand\":[{\"points\":[[0,1],[1,1]]},{\"points\":[[1,2]]}],\"discount\":[1,1],\"holding\":[1,2],\"kind\":\"serial\",\"periods\":2,\"start\":[-1,3],\"stockout\":9,\"unit\":[0,8]}",
+        ),
+    ] {
+        is_written(&rt, rt.alloc(), text, written);
+        is_written(&rt, rt.alloc(), written, written);
     }
-}
-
-#[test]
-fn reads_lots(rt: HostRuntime) {
-    let item = lots(
-        &rt,
-        rt.alloc(),
-        "{\"kind\":\"lots\",\"demand\":[90,0,80],\"setup\":500,\"holding\":[2,1,3]}",
-    );
-    assert_eq!(rt; item.demand.as_slice(), [90, 0, 80].as_slice());
-    assert_eq!(rt; item.setup.as_slice(), [500, 500, 500].as_slice());
-    assert_eq!(rt; item.holding.as_slice(), [2, 1, 3].as_slice());
-    assert_eq!(rt; item.unit.as_slice(), [0, 0, 0].as_slice());
-}
-
-fn finite(rt: &impl Abort, alloc: Global, text: &str) -> Finite {
-    match read_instance(alloc, text.as_bytes()) {
-        Ok(Instance::Finite(item)) => item,
-        _ => panic!(rt; "{text} is no finite horizon"),
-    }
-}
-
-#[test]
-fn reads_a_finite_horizon(rt: HostRuntime) {
-    let item = finite(
-        &rt,
-        rt.alloc(),
-        "{\"kind\":\"finite\",\"periods\":2,\"holding\":1,\"stockout\":3,\"demand\":{\"points\":[[0,1],[1,1]]},\"cap\":2,\"start\":2}",
-    );
-    assert!(rt;
-        item.periods == 2 && item.lead == 0 && item.setup == 0 && item.unit == 0,
-        "absent keys"
-    );
-    assert!(rt;
-        item.end_holding == 0 && item.end_stockout == 0 && item.most.is_none(),
-        "absent keys"
-    );
-    assert!(rt;
-        item.discount_num == 1 && item.discount_den == 1,
-        "no discount"
-    );
-    assert!(rt; item.cap == 2 && item.start == 2, "a start at the cap");
-    assert!(rt; item.laws.as_slice().len() == 1, "one law");
-    let item = finite(
-        &rt,
-        rt.alloc(),
-        "{\"kind\":\"finite\",\"periods\":1,\"lead\":1,\"setup\":7,\"unit\":2,\"holding\":1,\"stockout\":3,\"end_holding\":4,\"end_stockout\":5,\"discount\":[1,2],\"most\":6,\"total\":4,\"demand\":[{\"uniform\":[0,1]},{\"points\":[[1,1]]}],\"cap\":9,\"start\":-8}",
-    );
-    assert!(rt;
-        item.lead == 1 && item.setup == 7 && item.unit == 2,
-        "lead and costs"
-    );
-    assert!(rt;
-        item.end_holding == 4 && item.end_stockout == 5 && item.most == Some(6),
-        "end and capacity"
-    );
-    assert!(rt;
-        item.discount_num == 1 && item.discount_den == 2 && item.start == -8,
-        "discount and start"
-    );
-    let laws = item.laws.as_slice();
-    assert_eq!(rt; laws.len(), 2);
-    assert_eq!(rt; laws[0].weights(), [2, 2].as_slice());
-    assert_eq!(rt; laws[1].weights(), [0, 4].as_slice());
-}
-
-fn average(rt: &impl Abort, alloc: Global, text: &str) -> Average {
-    match read_instance(alloc, text.as_bytes()) {
-        Ok(Instance::Average(item)) => item,
-        _ => panic!(rt; "{text} is no average-cost instance"),
-    }
-}
-
-#[test]
-fn reads_an_average_cost(rt: HostRuntime) {
-    let item = average(
-        &rt,
-        rt.alloc(),
-        "{\"kind\":\"average\",\"setup\":1,\"holding\":1,\"stockout\":3,\"demand\":{\"points\":[[0,1],[1,1]]},\"floor\":0,\"cap\":1999,\"policy\":\"rQ\"}",
-    );
-    assert!(rt;
-        item.setup == 1 && item.floor == 0 && item.cap == 1999 && item.lots,
-        "lots"
-    );
-    let item = average(
-        &rt,
-        rt.alloc(),
-        "{\"kind\":\"average\",\"holding\":1,\"stockout\":3,\"demand\":{\"uniform\":[0,2]},\"floor\":-2,\"cap\":-2}",
-    );
-    assert!(rt;
-        item.lead == 0 && item.setup == 0 && item.floor == -2 && item.cap == -2 && !item.lots,
-        "absent keys"
-    );
-}
-
-fn serial(rt: &impl Abort, alloc: Global, text: &str) -> Serial {
-    match read_instance(alloc, text.as_bytes()) {
-        Ok(Instance::Serial(item)) => item,
-        _ => panic!(rt; "{text} is no serial system"),
-    }
-}
-
-#[test]
-fn reads_a_serial_system(rt: HostRuntime) {
-    let item = serial(
-        &rt,
-        rt.alloc(),
-        "{\"kind\":\"serial\",\"periods\":2,\"holding\":[1,2],\"unit\":3,\"stockout\":4,\"total\":6,\"demand\":{\"points\":[[0,1],[1,1]]},\"cap\":2,\"start\":[2,2]}",
-    );
-    assert!(rt;
-        item.periods == 2 && item.stockout == 4 && item.cap == 2,
-        "numbers"
-    );
-    assert_eq!(rt; item.holding.as_slice(), [1, 2].as_slice());
-    assert_eq!(rt; item.unit.as_slice(), [3, 3].as_slice());
-    assert_eq!(rt; item.start.as_slice(), [2, 2].as_slice());
-    let laws = item.laws.as_slice();
-    assert_eq!(rt; laws.len(), 1);
-    assert_eq!(rt; laws[0].weights(), [3, 3].as_slice());
 }

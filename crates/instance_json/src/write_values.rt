@@ -1,7 +1,9 @@
 // JSON values for the parts of an instance.
-ghost use Rattle.std.specs.Prelude.{◌≡◌, map, IfOk};
-ghost use Rattle.serde_json.specs.View.{view};
-ghost use Rattle.instance_json.specs.WrittenValues.{amounts_data, positions_data, pair_data, points_from, point_data, law_data, laws_data};
+ghost use Rattle.std.specs.Prelude.{◌≡◌, map, IfOk, OnOk};
+ghost use Rattle.serde_json.specs.Data.{string, put as with_member};
+ghost use Rattle.serde_json.specs.View.{view, members_view};
+ghost use Rattle.instance_json.specs.Members.{put_all};
+ghost use Rattle.instance_json.specs.WrittenValues.{amount_data, amounts_data, positions_data, pair_data, points_from, point_data, law_data, laws_data};
 
 use demand_law::Law;
 use serde_json::{Map, Value, json, put};
@@ -92,4 +94,33 @@ pub fn laws_value(alloc: Global, laws: &[Law]) -> Result<Value, AllocError>
     }
     let values = law_values(alloc, laws)?;
     Ok(Value::Array(values))
+}
+
+// Puts numbers under their keys.
+pub fn put_amounts(
+    members: &mut Map<String, Value>,
+    alloc: Global,
+    amounts: &[(&str, u64)],
+) -> Result<(), AllocError>
+    ensures { OnOk result (members_view members.new.entries
+        ≡ put_all (map (λ m. (m.0.now, amount_data m.1)) amounts.now) (members_view members.old.entries)) }
+{
+    for (key, amount) in amounts {
+        put(members, alloc, key, Value::from(*amount))?;
+    }
+    Ok(())
+}
+
+// Puts a text under its key.
+pub fn put_text(
+    members: &mut Map<String, Value>,
+    alloc: Global,
+    key: &str,
+    text: &str,
+) -> Result<(), AllocError>
+    ensures { OnOk result (members_view members.new.entries
+        ≡ with_member key.now (string text.now) (members_view members.old.entries)) }
+{
+    let value = Value::try_from_str(alloc, text)?;
+    put(members, alloc, key, value)
 }

@@ -1,5 +1,5 @@
 -- What `demand` prints of an instance.
-use Rattle.std.specs.Prelude.{ℕ, ◌+◌, List, [], ◌∷◌, ◌++◌, codes, decimal}
+use Rattle.std.specs.Prelude.{ℕ, ◌+◌, List, [], ◌∷◌, ◌++◌, Bool, true, false, codes, decimal}
 use Rattle.std.specs.List.{flat_map, range_with_len}
 use Rattle.demand_law.specs.Sequences.{law_at, laws_at, law_of_sum}
 use Rattle.decision_model.specs.declared.instance.Instance.{Instance}
@@ -10,19 +10,32 @@ use Rattle.report_text.specs.Laws.{law_text}
 abbrev pub law_of_periods : List (List ℕ) → ℕ → ℕ → List ℕ
 law_of_periods laws place count = law_of_sum (laws_at laws place count)
 
--- a law under the number of its period, from 1
+-- the line of a period's number, from 1
+abbrev pub numbered_text : ℕ → List ℕ
+numbered_text period = codes "period " ++ decimal period ++ codes "\n"
+
+-- a law under the number of its period
 abbrev pub period_text : ℕ → List ℕ → List ℕ
-period_text period law = codes "period " ++ decimal period ++ codes "\n" ++ law_text law
+period_text period law = numbered_text period ++ law_text law
+
+-- one text under the number of each period
+abbrev pub same_text : ℕ → List ℕ → List ℕ
+same_text periods text = flat_map (λ place. numbered_text (place + 1) ++ text) (range_with_len 0 periods)
 
 -- the laws of the periods, the first of them at place 0
 abbrev pub periods_text : ℕ → (ℕ → List ℕ) → List ℕ
 periods_text periods law = flat_map (λ place. period_text (place + 1) (law place)) (range_with_len 0 periods)
 
+-- the instance has laws of demand: the demand of lot sizing is known
+abbrev pub has_laws : Instance → Bool
+has_laws (Lots lots) = false
+has_laws _ = true
+
 -- the law of the one period of a newsvendor, of the lead time with its period's demand, of that from each period on, or
--- of each period; lot sizing has no laws
+-- of each period; nothing where there are no laws
 abbrev pub demand_text_of : Instance → List ℕ
-demand_text_of (News item) = law_text item.law
-demand_text_of (Lots item) = []
-demand_text_of (Finite item) = periods_text item.periods (λ place. law_of_periods item.laws place (item.lead + 1))
-demand_text_of (Average item) = law_text (law_of_periods (item.law ∷ []) 0 (item.lead + 1))
-demand_text_of (Serial item) = periods_text item.periods (law_at item.laws)
+demand_text_of (News newsvendor) = law_text newsvendor.law
+demand_text_of (Lots lots) = []
+demand_text_of (Finite finite) = periods_text finite.periods (λ place. law_of_periods finite.laws place (finite.lead + 1))
+demand_text_of (Average average) = law_text (law_of_periods (average.law ∷ []) 0 (average.lead + 1))
+demand_text_of (Serial serial) = periods_text serial.periods (law_at serial.laws)

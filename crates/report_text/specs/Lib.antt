@@ -1,4 +1,6 @@
 pub mod Messages
 pub mod Laws
 pub mod Demand
+pub mod News
+pub mod Lots
 pub mod Reports

@@ -8,8 +8,15 @@ use Rattle.instance_json.specs.declared.fault.KeyList.{KeyList}
 use Rattle.instance_json.specs.declared.fault.KeyList.TheVariants.{Top, Nodes, Pauses}
 use Rattle.instance_json.specs.declared.fault.InstanceFault.{InstanceFault}
 use Rattle.instance_json.specs.declared.fault.InstanceFault.TheVariants as instance
+use Rattle.instance_json.specs.declared.fault.InstanceErr.{InstanceErr}
+use Rattle.instance_json.specs.declared.fault.InstanceErr.TheVariants as error
 use Rattle.report_text.specs.declared.faults.Fault.{Fault}
 use Rattle.report_text.specs.declared.faults.Fault.TheVariants.{NoCommand, UnknownCommand, TooFew, TooMany, EmptyName, NoOption, BadNumber, TwoInputs, NotBuilt, MissingFile, TooLong, Instance, NotThisCommand, ReadFault, WriteFault, Memory}
+
+-- the fault of a text that gives no instance
+abbrev pub instance_fault : InstanceErr → Fault
+instance_fault (error.Bad fault) = Instance fault
+instance_fault error.Memory = Memory
 
 -- the place of a key's object, which the instance itself has none of
 abbrev pub place_words : KeyList → ℕ → List ℕ

@@ -1,12 +1,12 @@
 // The messages of refusals.
 ghost use Rattle.std.specs.Prelude.{◌≡◌, ◌++◌, OnOk, IfOk};
-ghost use Rattle.report_text.specs.Messages.{fault_message, fault_words, instance_words, key_words, place_words, law_words, word_words};
+ghost use Rattle.report_text.specs.Messages.{instance_fault, fault_message, fault_words, instance_words, key_words, place_words, law_words, word_words};
 
 use crate::pieces::{push_both, push_numbered};
 use decision_model::Kind;
 use demand_law::LawFault;
 use fraction128::{Memory, Text};
-use instance_json::{InstanceFault, Key, KeyList};
+use instance_json::{InstanceErr, InstanceFault, Key, KeyList};
 use std::alloc::Global;
 
 #[cfg(test)]
@@ -50,46 +50,40 @@ pub enum Fault {
 }
 
 // Appends the key of a fault, after its object's place where that isn't the instance itself.
-fn push_key(alloc: Global, out: &mut Text, key: &Key) -> Result<(), Memory>
+fn push_key(out: &mut Text, key: &Key) -> Result<(), Memory>
     ensures { OnOk result (out.new ≡ out.old ++ key_words key.now) }
 {
-    push_place(alloc, out, key.list, key.item)?;
+    push_place(out, key.list, key.item)?;
     out.push(key.name.bytes())
 }
 
 // Appends the place of an object in its list.
-fn push_place(alloc: Global, out: &mut Text, list: KeyList, item: u32) -> Result<(), Memory>
+fn push_place(out: &mut Text, list: KeyList, item: u32) -> Result<(), Memory>
     ensures { OnOk result (out.new ≡ out.old ++ place_words list item) }
 {
     match list {
         KeyList::Top => Ok(()),
-        KeyList::Nodes => push_numbered(alloc, out, "nodes[", item, "]."),
-        KeyList::Pauses => push_numbered(alloc, out, "pauses[", item, "]."),
+        KeyList::Nodes => push_numbered(out, "nodes[", item, "]."),
+        KeyList::Pauses => push_numbered(out, "pauses[", item, "]."),
     }
 }
 
 // Appends a key and what is wrong with it.
-fn push_keyed(alloc: Global, out: &mut Text, key: &Key, wrong: &str) -> Result<(), Memory>
+fn push_keyed(out: &mut Text, key: &Key, wrong: &str) -> Result<(), Memory>
     ensures { OnOk result (out.new ≡ out.old ++ (key_words key.now ++ wrong.now)) }
 {
-    push_key(alloc, out, key)?;
+    push_key(out, key)?;
     out.push(wrong.as_bytes())
 }
 
 // Appends why numbers make no law.
-fn push_law_fault(alloc: Global, out: &mut Text, fault: LawFault) -> Result<(), Memory>
+fn push_law_fault(out: &mut Text, fault: LawFault) -> Result<(), Memory>
     ensures { OnOk result (out.new ≡ out.old ++ law_words fault) }
 {
     match fault {
         LawFault::Empty => out.push(b"no points"),
-        LawFault::Repeated(demand) => push_numbered(alloc, out, "demand ", demand, " twice"),
-        LawFault::ZeroWeight(demand) => push_numbered(
-            alloc,
-            out,
-            "demand ",
-            demand,
-            " has weight 0",
-        ),
+        LawFault::Repeated(demand) => push_numbered(out, "demand ", demand, " twice"),
+        LawFault::ZeroWeight(demand) => push_numbered(out, "demand ", demand, " has weight 0"),
         LawFault::TooLarge => out.push(b"too large"),
         LawFault::Disordered => out.push(b"out of order"),
         LawFault::NotMultiple => out.push(b"does not divide the total"),
@@ -97,29 +91,28 @@ fn push_law_fault(alloc: Global, out: &mut Text, fault: LawFault) -> Result<(), 
 }
 
 // Appends a key and why its numbers make no law.
-fn push_bad_law(alloc: Global, out: &mut Text, key: &Key, fault: LawFault) -> Result<(), Memory>
+fn push_bad_law(out: &mut Text, key: &Key, fault: LawFault) -> Result<(), Memory>
     ensures { OnOk result (out.new ≡ out.old ++ instance_words (InstanceFault.BadLaw key.now fault)) }
 {
-    push_keyed(alloc, out, key, ": law: ")?;
-    push_law_fault(alloc, out, fault)
+    push_keyed(out, key, ": law: ")?;
+    push_law_fault(out, fault)
 }
 
 // Appends why a text says no instance.
-fn push_instance_fault(alloc: Global, out: &mut Text, fault: &InstanceFault) -> Result<(), Memory>
+fn push_instance_fault(out: &mut Text, fault: &InstanceFault) -> Result<(), Memory>
     ensures { OnOk result (out.new ≡ out.old ++ instance_words fault.now) }
 {
     match fault {
         InstanceFault::NotJson => out.push(b"not JSON"),
         InstanceFault::UnknownKind => out.push(b"unknown kind"),
         InstanceFault::NotBuilt => out.push(b"not built yet"),
-        InstanceFault::Missing(key) => push_keyed(alloc, out, key, ": missing"),
-        InstanceFault::UnknownKey(key) => push_keyed(alloc, out, key, ": unknown key"),
-        InstanceFault::WrongType(key) => push_keyed(alloc, out, key, ": wrong type"),
-        InstanceFault::OutOfRange(key) => push_keyed(alloc, out, key, ": out of range"),
-        InstanceFault::LengthMismatch(key) => push_keyed(alloc, out, key, ": wrong length"),
-        InstanceFault::BadLaw(key, law_fault) => push_bad_law(alloc, out, key, *law_fault),
+        InstanceFault::Missing(key) => push_keyed(out, key, ": missing"),
+        InstanceFault::UnknownKey(key) => push_keyed(out, key, ": unknown key"),
+        InstanceFault::WrongType(key) => push_keyed(out, key, ": wrong type"),
+        InstanceFault::OutOfRange(key) => push_keyed(out, key, ": out of range"),
+        InstanceFault::LengthMismatch(key) => push_keyed(out, key, ": wrong length"),
+        InstanceFault::BadLaw(key, law_fault) => push_bad_law(out, key, *law_fault),
         InstanceFault::Speculative(period) => push_numbered(
-            alloc,
             out,
             "period ",
             *period,
@@ -128,15 +121,9 @@ fn push_instance_fault(alloc: Global, out: &mut Text, fault: &InstanceFault) -> 
         InstanceFault::NoDemand => out.push(b"no demand"),
         InstanceFault::NotUnitDemand => out.push(b"demand is not 0 or 1"),
         InstanceFault::Grid => out.push(b"grid too large"),
-        InstanceFault::NetworkShape(node) => push_numbered(
-            alloc,
-            out,
-            "node ",
-            *node,
-            ": network shape",
-        ),
-        InstanceFault::Overlap(pause) => push_numbered(alloc, out, "pause ", *pause, ": overlap"),
-        InstanceFault::Load(node) => push_numbered(alloc, out, "node ", *node, ": load"),
+        InstanceFault::NetworkShape(node) => push_numbered(out, "node ", *node, ": network shape"),
+        InstanceFault::Overlap(pause) => push_numbered(out, "pause ", *pause, ": overlap"),
+        InstanceFault::Load(node) => push_numbered(out, "node ", *node, ": load"),
         InstanceFault::Width => out.push(b"too wide"),
     }
 }
@@ -153,10 +140,10 @@ fn push_wrong_kind(out: &mut Text, kind: Kind) -> Result<(), Memory>
 }
 
 // Appends what is wrong with the word at a place, from 1.
-fn push_word(alloc: Global, out: &mut Text, word: u32, wrong: &str) -> Result<(), Memory>
+fn push_word(out: &mut Text, word: u32, wrong: &str) -> Result<(), Memory>
     ensures { OnOk result (out.new ≡ out.old ++ word_words word wrong.now) }
 {
-    push_numbered(alloc, out, "word ", word, wrong)
+    push_numbered(out, "word ", word, wrong)
 }
 
 // Appends that there is no file of this name.
@@ -174,29 +161,60 @@ fn push_unread(out: &mut Text, name: &Text) -> Result<(), Memory>
 }
 
 // Appends what the message says behind the program's name.
-fn push_fault(alloc: Global, out: &mut Text, fault: &Fault) -> Result<(), Memory>
+fn push_fault(out: &mut Text, fault: &Fault) -> Result<(), Memory>
     ensures { OnOk result (out.new ≡ out.old ++ fault_words fault.now) }
 {
     match fault {
         Fault::NoCommand => out.push(b"no command"),
-        Fault::UnknownCommand => push_word(alloc, out, 1, ": unknown command"),
-        Fault::TooFew(word) => push_word(alloc, out, *word, ": missing"),
-        Fault::TooMany(word) => push_word(alloc, out, *word, ": not expected"),
-        Fault::EmptyName(word) => push_word(alloc, out, *word, ": empty name"),
-        Fault::NoOption(word) => push_word(alloc, out, *word, ": no option is known"),
-        Fault::BadNumber(word) => push_word(alloc, out, *word, ": not a number from 0 to 999999"),
-        Fault::TwoInputs(word) => push_word(alloc, out, *word, ": standard input is already used"),
-        Fault::NotBuilt => push_word(alloc, out, 1, ": not built yet"),
+        Fault::UnknownCommand => push_word(out, 1, ": unknown command"),
+        Fault::TooFew(word) => push_word(out, *word, ": missing"),
+        Fault::TooMany(word) => push_word(out, *word, ": not expected"),
+        Fault::EmptyName(word) => push_word(out, *word, ": empty name"),
+        Fault::NoOption(word) => push_word(out, *word, ": no option is known"),
+        Fault::BadNumber(word) => push_word(out, *word, ": not a number from 0 to 999999"),
+        Fault::TwoInputs(word) => push_word(out, *word, ": standard input is already used"),
+        Fault::NotBuilt => push_word(out, 1, ": not built yet"),
         Fault::MissingFile(name) => push_missing(out, name),
         Fault::TooLong => out.push(b"instance longer than 1048576 bytes"),
         Fault::Instance(wrong) => {
             out.push(b"instance: ")?;
-            push_instance_fault(alloc, out, wrong)
+            push_instance_fault(out, wrong)
         }
         Fault::NotThisCommand(kind) => push_wrong_kind(out, *kind),
         Fault::ReadFault(name) => push_unread(out, name),
         Fault::WriteFault => out.push(b"cannot write"),
         Fault::Memory => out.push(b"out of memory"),
+    }
+}
+
+impl From<Memory> for Fault {
+    ghost use Rattle.report_text.specs.declared.faults.Fault.{Fault};
+
+    ghost from_gives = { λ _ fault. fault ≡ Fault.Memory };
+
+    fn from(_: Memory) -> Fault {
+        Fault::Memory
+    }
+}
+
+impl From<InstanceFault> for Fault {
+    ghost use Rattle.report_text.specs.declared.faults.Fault.{Fault};
+
+    ghost from_gives = { λ wrong fault. fault ≡ Fault.Instance wrong };
+
+    fn from(wrong: InstanceFault) -> Fault {
+        Fault::Instance(wrong)
+    }
+}
+
+impl From<InstanceErr> for Fault {
+    ghost from_gives = { λ wrong fault. fault ≡ instance_fault wrong };
+
+    fn from(wrong: InstanceErr) -> Fault {
+        match wrong {
+            InstanceErr::Bad(fault) => Fault::Instance(fault),
+            InstanceErr::Memory => Fault::Memory,
+        }
     }
 }
 
@@ -206,7 +224,7 @@ pub fn fault_text(alloc: Global, fault: &Fault) -> Result<Text, Memory>
 {
     let mut text = Text::new(alloc);
     text.push(b"stock: ")?;
-    push_fault(alloc, &mut text, fault)?;
+    push_fault(&mut text, fault)?;
     text.push(b"\n")?;
     Ok(text)
 }

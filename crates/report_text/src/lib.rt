@@ -1,14 +1,20 @@
 //! What `stock` prints of its instances, and the messages of its refusals.
 #![tactic(auto)]
 
+mod average;
 mod demand;
 mod faults;
+mod finite;
 mod help;
 mod laws;
+mod lots;
+mod news;
+mod periods;
 mod pieces;
 mod reports;
+mod serial;
 
-pub use demand::demand_text;
+pub use demand::{demand_text, has_laws};
 pub use faults::{Fault, fault_text};
 pub use help::help_text;
 pub use reports::report;

@@ -2,30 +2,22 @@
 ghost use Rattle.std.specs.Prelude.{◌≡◌, ◌++◌, OnOk, decimal};
 
 use fraction128::{Memory, Text};
-use std::alloc::Global;
+use itoa::{Buffer, Integer};
 
 // Appends a number in decimal.
-pub fn push_number(alloc: Global, out: &mut Text, number: u32) -> Result<(), Memory>
-    ensures { OnOk result (out.new ≡ out.old ++ decimal number) }
+pub fn push_number<N: Integer>(out: &mut Text, number: N) -> Result<(), Memory>
+    ensures { OnOk result (out.new ≡ out.old ++ N.text number) }
 {
-    match number.to_string(alloc) {
-        Ok(digits) => out.push(digits.as_bytes()),
-        Err(_) => Err(Memory),
-    }
+    let mut buffer = Buffer::new();
+    out.push(buffer.format(number).as_bytes())
 }
 
 // Appends a number in decimal, with a word before it and one behind it.
-pub fn push_numbered(
-    alloc: Global,
-    out: &mut Text,
-    before: &str,
-    number: u32,
-    after: &str,
-) -> Result<(), Memory>
+pub fn push_numbered(out: &mut Text, before: &str, number: u32, after: &str) -> Result<(), Memory>
     ensures { OnOk result (out.new ≡ out.old ++ (before.now ++ decimal number ++ after.now)) }
 {
     out.push(before.as_bytes())?;
-    push_number(alloc, out, number)?;
+    push_number(out, number)?;
     out.push(after.as_bytes())
 }
 

@@ -2,13 +2,16 @@
 use Rattle.std.proofs.Common.{◌≡◌, ◌⊎◌, ℕ, List, Option, Some, None, Result, Ok, Err, IfSome, IsOk, IsSome, String, refl, sym, subst, inl, inr, ◌∙◌, ap}
 use Rattle.std.specs.declared.alloc.Global.{Global}
 use Rattle.std.specs.Io.KnownBytes.{Appends}
+use Rattle.instance_json.specs.declared.fault.InstanceFault.{InstanceFault}
+use Rattle.instance_json.specs.declared.fault.InstanceFault.TheVariants as instance_fault
 use Rattle.report_text.specs.declared.faults.Fault.{Fault}
 use Rattle.report_text.specs.declared.faults.Fault.TheVariants as fault
-use Rattle.stock_edge.specs.Causes.{Rose}
-use Rattle.stock_edge.specs.Known.{appends_none}
-use Rattle.stock_cli.specs.Causes.{Counts, RoseAt, IsUnread, IsRefused, IsToldOf, IsCause, IsTold, words_fault, read_fault, command_fault}
+use Rattle.stock_edge.specs.Causes.{Rose, AppendsPrefix}
+use Rattle.stock_edge.specs.Known.{appends_none, prefix_none}
+use Rattle.stock_cli.specs.Causes.{Counts, RoseAt, FailsOne, IsUnread, IsRefused, IsToldOf, IsCause, IsTold, words_fault, read_fault, command_fault}
+use Rattle.stock_cli.specs.Inputs.{Origin}
 use Rattle.stock_cli.specs.Outcome.{Ending, Output, text_of, status_of_outcome}
-use Rattle.stock_cli.specs.Status.{IsDecided, IsOfInputs, status_of, word_fault}
+use Rattle.stock_cli.specs.Status.{IsDecided, instance_status, status_of, word_fault}
 use Rattle.stock_cli.specs.Words.{command_of}
 use Rattle.stock_cli.specs.declared.words.Command.{Command}
 use Rattle.stock_cli.specs.declared.words.Command.TheVariants as command
@@ -45,10 +48,15 @@ refusal_outcome unread (Some end) f given w h (inl e) = λ decided.
     (e ∙ ends.0, ends.1)
 refusal_outcome unread (Some end) f given w h (inr e) = λ decided. absurd (subst IsDecided e decided)
 
+-- a run that writes nothing has written the front of any text
+pub nothing_written : (ending : Ending) (w : Option (List ℕ)) → IfSome ending (λ end. AppendsPrefix w w (text_of end))
+nothing_written None w = tt
+nothing_written (Some end) w = prefix_none w (text_of end)
+
 -- a count that rose is that of standard input or that of the files
-rose_one : (counts : Counts) (at : Option ℕ) → RoseAt counts at → Rose counts.input_before counts.input_now ⊎ Rose counts.files_before counts.files_now
+rose_one : (counts : Counts) (input : Origin) → RoseAt counts input → Rose counts.input_before counts.input_now ⊎ Rose counts.files_before counts.files_now
 rose_one counts None h = inl h
-rose_one counts (Some place) h = inr h
+rose_one counts (Some name) h = inr h
 
 -- no error is an output
 err_not_ok : (f : Fault) → IsOk {T = Output} (Err f) → ⊥
@@ -58,39 +66,39 @@ none_not_some : IsSome {T = Fault} None → ⊥
 none_not_some h = cc h
 
 -- what ends with an output is refused for want of memory alone, where no count rose
-ok_refused : (counts : Counts) (run : List (String Global)) (asked : Result Command WordErr) (end : Result Output Fault) (f : Fault) (given : Status) → IsOk end
+ok_refused : (counts : Counts) (reads : Origin → Type 0) (end : Result Output Fault) (f : Fault) (given : Status) → IsOk end
     → (Rose counts.input_before counts.input_now → ⊥) → (Rose counts.files_before counts.files_now → ⊥)
-    → given ≡ status_of f → IsRefused (IsUnread counts run asked) (Some end) f → given ≡ status.Memory
-ok_refused counts run asked end (fault.ReadFault name) given ok ni nf e h = by_count (rose_one counts h.input h.failed.1)
+    → given ≡ status_of f → IsRefused (IsUnread counts reads) (Some end) f → given ≡ status.Memory
+ok_refused counts reads end (fault.ReadFault name) given ok ni nf e h = by_count (rose_one counts h.input h.failed.1)
   where
     by_count : Rose counts.input_before counts.input_now ⊎ Rose counts.files_before counts.files_now → given ≡ status.Memory
     by_count (inl r) = absurd (ni r)
     by_count (inr r) = absurd (nf r)
-ok_refused counts run asked end fault.Memory given ok ni nf e h = e
-ok_refused counts run asked end fault.WriteFault given ok ni nf e h = absurd h
-ok_refused counts run asked end f given ok ni nf e h = absurd (err_not_ok f (subst IsOk h ok))
+ok_refused counts reads end fault.Memory given ok ni nf e h = e
+ok_refused counts reads end fault.WriteFault given ok ni nf e h = absurd h
+ok_refused counts reads end f given ok ni nf e h = absurd (err_not_ok f (subst IsOk h ok))
 
-pub refusal_complete : (counts : Counts) (run : List (String Global)) (asked : Result Command WordErr) (ending : Ending) (f : Fault) (given : Status) (other : Type 0)
-    → IsRefused (IsUnread counts run asked) ending f → (given ≡ status_of f) ⊎ (given ≡ status.Memory)
+pub refusal_complete : (counts : Counts) (reads : Origin → Type 0) (ending : Ending) (f : Fault) (given : Status) (other : Type 0)
+    → IsRefused (IsUnread counts reads) ending f → (given ≡ status_of f) ⊎ (given ≡ status.Memory)
     → IfSome ending (λ end. IsOk end → ¬ Rose counts.input_before counts.input_now → ¬ Rose counts.files_before counts.files_now → ¬ other → (given ≡ status_of_outcome end) ⊎ (given ≡ status.Memory))
-refusal_complete counts run asked None f given other h cases = tt
-refusal_complete counts run asked (Some end) f given other h (inl e) = λ ok ni nf no. inr (ok_refused counts run asked end f given ok ni nf e h)
-refusal_complete counts run asked (Some end) f given other h (inr e) = λ ok ni nf no. inr e
+refusal_complete counts reads None f given other h cases = tt
+refusal_complete counts reads (Some end) f given other h (inl e) = λ ok ni nf no. inr (ok_refused counts reads end f given ok ni nf e h)
+refusal_complete counts reads (Some end) f given other h (inr e) = λ ok ni nf no. inr e
 
 -- what refuses a run is the cause of its status
-cause_of : (counts : Counts) (ending : Ending) (run : List (String Global)) (given : Status) (f : Fault) → given ≡ status_of f → IsRefused (IsUnread counts run (command_of run)) ending f → IsCause counts ending run given f
-cause_of counts ending run given (fault.ReadFault name) e h = h
-cause_of counts ending run given fault.Memory e h = λ decided. absurd (subst IsDecided e decided)
-cause_of counts ending run given fault.WriteFault e h = absurd h
-cause_of counts ending run given f e h = λ decided. h
+cause_of : (counts : Counts) (ending : Ending) (reads : Origin → Type 0) (given : Status) (f : Fault) → given ≡ status_of f → IsRefused (IsUnread counts reads) ending f → IsCause counts ending reads given f
+cause_of counts ending reads given (fault.ReadFault name) e h = h
+cause_of counts ending reads given fault.Memory e h = λ decided. absurd (subst IsDecided e decided)
+cause_of counts ending reads given fault.WriteFault e h = absurd h
+cause_of counts ending reads given f e h = λ decided. h
 
-pub refusal_message : (counts : Counts) (ending : Ending) (run : List (String Global)) (given : Status) (f : Fault) (before now : ℕ) (old new : Option (List ℕ)) → IsRefused (IsUnread counts run (command_of run)) ending f → IsToldOf f given before now old new → IsTold counts ending run given before now old new
-refusal_message counts ending run given f before now old new h t =
+pub refusal_message : (counts : Counts) (ending : Ending) (reads : Origin → Type 0) (given : Status) (f : Fault) (before now : ℕ) (old new : Option (List ℕ)) → IsRefused (IsUnread counts reads) ending f → IsToldOf f given before now old new → IsTold counts ending reads given before now old new
+refusal_message counts ending reads given f before now old new h t =
     record { refusal = t.told; status_is = t.status_is; cause = by_case t.of; part = t.part; whole = t.whole }
   where
-    by_case : (t.told ≡ f) ⊎ (t.told ≡ fault.Memory) → IsCause counts ending run given t.told
-    by_case (inl e) = let P : Fault → Type 0 = IsCause counts ending run given in subst P (sym e) (cause_of counts ending run given f (t.status_is ∙ ap status_of e) h)
-    by_case (inr e) = let P : Fault → Type 0 = IsCause counts ending run given in subst P (sym e) (λ decided. absurd (subst IsDecided (t.status_is ∙ ap status_of e) decided))
+    by_case : (t.told ≡ f) ⊎ (t.told ≡ fault.Memory) → IsCause counts ending reads given t.told
+    by_case (inl e) = let P : Fault → Type 0 = IsCause counts ending reads given in subst P (sym e) (cause_of counts ending reads given f (t.status_is ∙ ap status_of e) h)
+    by_case (inr e) = let P : Fault → Type 0 = IsCause counts ending reads given in subst P (sym e) (λ decided. absurd (subst IsDecided (t.status_is ∙ ap status_of e) decided))
 
 -- a fault of the words has the status of the words
 word_status : (e : WordErr) → status_of (word_fault e) ≡ status.Words
@@ -126,3 +134,18 @@ refusal_words run f given only cases some = by_fault (words_fault run) refl some
     by_fault None is some cases = absurd (none_not_some some)
     by_fault (Some g) is some (inl e) = inl (e ∙ ap status_of (only g is) ∙ read_status (command_of run) g is)
     by_fault (Some g) is some (inr e) = inr e
+
+-- no fault of an instance is one of reading
+not_read : (f : InstanceFault) → instance_status f ≡ status.ReadFault → ⊥
+not_read instance_fault.Width e = cc e
+not_read f e = cc e
+
+unread_one : (counts : Counts) (reads : Origin → Type 0) (ending : Ending) (f : Fault) → IsRefused (IsUnread counts reads) ending f → status_of f ≡ status.ReadFault → FailsOne counts reads
+unread_one counts reads ending (fault.ReadFault name) h e = (h.input, h.read, h.failed.1)
+unread_one counts reads ending (fault.Instance f) h e = absurd (not_read f e)
+unread_one counts reads ending f h e = absurd (cc e)
+
+-- a run that ends with a read fault came to read an input that failed
+pub refusal_read : (counts : Counts) (reads : Origin → Type 0) (ending : Ending) (f : Fault) (given : Status) → IsRefused (IsUnread counts reads) ending f → (given ≡ status_of f) ⊎ (given ≡ status.Memory) → given ≡ status.ReadFault → FailsOne counts reads
+refusal_read counts reads ending f given h (inl e) is = unread_one counts reads ending f h (sym e ∙ is)
+refusal_read counts reads ending f given h (inr e) is = absurd (cc (sym e ∙ is))

@@ -3,18 +3,21 @@ use Rattle.std.specs.Prelude.{◌≡◌, ◌⊎◌, ℕ, ◌<◌, List, length, 
 use Rattle.std.specs.declared.alloc.Global.{Global}
 use Rattle.std.specs.Io.KnownBytes.{Appends}
 use Rattle.decision_model.specs.declared.instance.Instance.{Instance}
-use Rattle.instance_json.specs.Reads.{reads}
 use Rattle.report_text.specs.Messages.{fault_message}
 use Rattle.report_text.specs.declared.faults.Fault.{Fault}
 use Rattle.report_text.specs.declared.faults.Fault.TheVariants as fault
 use Rattle.stock_edge.specs.Causes.{Rose, AppendsPrefix}
-use Rattle.stock_cli.specs.Inputs.{Content, input_name}
+use Rattle.stock_edge.specs.HeldFiles.{Held, IsNotHeld}
+use Rattle.stock_edge.specs.declared.FileFault.{FileFault}
+use Rattle.stock_edge.specs.declared.FileFault.TheVariants as file
+use Rattle.stock_cli.specs.Inputs.{Content, Origin, SaysInstance, content_of, input_at, input_name}
+use Rattle.stock_cli.specs.Solvers.{IsBuilt}
 use Rattle.stock_cli.specs.Outcome.{Ending, instance_ending, question_outcome}
 use Rattle.stock_cli.specs.Status.{IsDecided, status_of, word_fault}
 use Rattle.stock_cli.specs.Words.{command_of}
-use Rattle.stock_cli.specs.declared.answers.Question.{Question}
-use Rattle.stock_cli.specs.declared.check.Unchecked.{Unchecked}
-use Rattle.stock_cli.specs.declared.check.Unchecked.TheVariants as unchecked
+use Rattle.stock_cli.specs.declared.commands.Question.{Question}
+use Rattle.stock_cli.specs.declared.certificates.Unchecked.{Unchecked}
+use Rattle.stock_cli.specs.declared.certificates.Unchecked.TheVariants as unchecked
 use Rattle.stock_cli.specs.declared.words.Command.{Command}
 use Rattle.stock_cli.specs.declared.words.Command.TheVariants as command
 use Rattle.stock_cli.specs.declared.words.WordErr.{WordErr}
@@ -36,22 +39,49 @@ read_fault (Err e) = Some (word_fault e)
 abbrev pub words_fault : List (String Global) → Option Fault
 words_fault words = read_fault (command_of words)
 
--- ---- the inputs that a command reads
+-- ---- the inputs of a command
 abbrev pub IsInputOf : Command → Option ℕ → Type 0
-IsInputOf (command.Solve input) at = at ≡ input
-IsInputOf (command.Certify input) at = at ≡ input
-IsInputOf (command.Demand input) at = at ≡ input
-IsInputOf (command.Check instance cert) at = (at ≡ instance) ⊎ (at ≡ cert)
-IsInputOf _ at = ⊥
+IsInputOf (command.Solve input) place = place ≡ input
+IsInputOf (command.Certify input) place = place ≡ input
+IsInputOf (command.Demand input) place = place ≡ input
+IsInputOf (command.Check instance cert) place = (place ≡ instance) ⊎ (place ≡ cert)
+IsInputOf _ place = ⊥
 
 -- the command checks a certificate
 abbrev pub IsCheck : Result Command WordErr → Type 0
 IsCheck (Ok (command.Check instance cert)) = Unit {0}
 IsCheck _ = ⊥
 
-abbrev pub ReadsInput : Result Command WordErr → Option ℕ → Type 0
-ReadsInput (Ok command) at = IsInputOf command at
-ReadsInput (Err e) at = ⊥
+abbrev pub TakesInput : Result Command WordErr → Option ℕ → Type 0
+TakesInput (Ok command) place = IsInputOf command place
+TakesInput (Err e) place = ⊥
+
+-- ---- the inputs that a run comes to read
+-- the content is an instance's that stands: it isn't too long, says the instance, and the solver of its kind is built
+pub record Stands (found : Result (List ℕ) Fault) : Type 0 where
+  pub instance : Instance
+  pub said : SaysInstance found instance
+  pub built : IsBuilt instance
+
+-- a check comes to its instance's input, and to its certificate's where the instance stands, as far as that is told
+abbrev pub ComparesInput : Content → Origin → Origin → Origin → Type 0
+ComparesInput content instance cert = λ input. (input ≡ instance) ⊎ ((input ≡ cert) × IfSome content Stands)
+
+abbrev pub ComesTo : Option (List ℕ) → Option Held → List (String Global) → Command → Origin → Type 0
+ComesTo left held words (command.Solve place) = λ input. input ≡ input_at words place
+ComesTo left held words (command.Certify place) = λ input. input ≡ input_at words place
+ComesTo left held words (command.Demand place) = λ input. input ≡ input_at words place
+ComesTo left held words (command.Check place cert) = ComparesInput (content_of left held (input_at words place)) (input_at words place) (input_at words cert)
+ComesTo left held words _ = λ input. ⊥
+
+-- the run of these words comes to read this input
+abbrev pub ReadsInput : Option (List ℕ) → Option Held → List (String Global) → Result Command WordErr → Origin → Type 0
+ReadsInput left held words (Ok command) = ComesTo left held words command
+ReadsInput left held words (Err e) = λ input. ⊥
+
+-- the run comes to read no file
+pub record ReadsNoFile (reads : Origin → Type 0) : Type 0 where
+  pub none : (name : List ℕ) → reads (Some name) → ⊥
 
 -- the counts of faults of standard input and of the files, before a call and after it
 pub record Counts : Type 0 where
@@ -65,23 +95,23 @@ counts_of input_before input_now files_before files_now =
     record { input_before = input_before; input_now = input_now; files_before = files_before; files_now = files_now }
 
 -- the count of the object that has an input rose
-abbrev pub RoseAt : Counts → Option ℕ → Type 0
+abbrev pub RoseAt : Counts → Origin → Type 0
 RoseAt counts None = Rose counts.input_before counts.input_now
-RoseAt counts (Some place) = Rose counts.files_before counts.files_now
+RoseAt counts (Some name) = Rose counts.files_before counts.files_now
+
+-- an input that the run comes to read failed
+abbrev pub FailsOne : Counts → (Origin → Type 0) → Type 0
+FailsOne counts reads = (input : Origin) × reads input × RoseAt counts input
 
 -- the input has this name, and its object failed
-abbrev pub FailedAt : Counts → List (String Global) → Option ℕ → List ℕ → Type 0
-FailedAt counts words input name = (name ≡ input_name words input) × RoseAt counts input
+abbrev pub FailedAt : Counts → Origin → List ℕ → Type 0
+FailedAt counts input name = (name ≡ input_name input) × RoseAt counts input
 
--- the same of one of two inputs
-abbrev pub FailedAtOneOf : Counts → List (String Global) → Option ℕ → Option ℕ → List ℕ → Type 0
-FailedAtOneOf counts words first second name = FailedAt counts words first name ⊎ FailedAt counts words second name
-
--- an input that the command reads has this name, and its object failed
-pub record IsUnread (counts : Counts) (words : List (String Global)) (asked : Result Command WordErr) (name : List ℕ) : Type 0 where
-  pub input : Option ℕ
-  pub read : ReadsInput asked input
-  pub failed : FailedAt counts words input name
+-- an input that the run comes to read has this name, and its object failed
+pub record IsUnread (counts : Counts) (reads : Origin → Type 0) (name : List ℕ) : Type 0 where
+  pub input : Origin
+  pub read : reads input
+  pub failed : FailedAt counts input name
 
 -- ---- refusals, by the inputs of a name that may not have been read
 -- the content is longer than an instance may be
@@ -96,17 +126,27 @@ NotRead unread content fault.TooLong = IfSome content IsTooLong
 NotRead unread content (fault.MissingFile name) = IfSome content (λ found. found ≡ Err (fault.MissingFile name))
 NotRead unread content _ = ⊥
 
+-- there is no such file
+abbrev pub IsMissing : Option Held → Origin → Type 0
+IsMissing held None = ⊥
+IsMissing held (Some name) = IsNotHeld held name
+
+-- why there is no next piece of a certificate: there is no such file, or its object failed
+abbrev pub NoPiece : Type 0 → Type 0 → Unchecked → Type 0
+NoPiece rose missing unchecked.Missing = missing
+NoPiece rose missing unchecked.Failed = rose
+NoPiece rose missing unchecked.Endless = ⊥
+
 -- why there is no verdict on a certificate of this name: there is no such file, its object failed, or it is too long to be counted
 abbrev pub NotChecked : Type 0 → List ℕ → Content → Unchecked → Type 0
 NotChecked rose name content unchecked.Missing = IfSome content (λ found. found ≡ Err (fault.MissingFile name))
 NotChecked rose name content unchecked.Failed = rose
 NotChecked rose name content unchecked.Endless = Unit {0}
 
--- why bytes give no instance: they say none, or memory was refused
-abbrev pub IsNoInstance : List ℕ → Fault → Type 0
-IsNoInstance bytes (fault.Instance f) = reads bytes ≡ Err f
-IsNoInstance bytes fault.Memory = Unit {0}
-IsNoInstance bytes _ = ⊥
+-- why a read of a file gave no piece
+abbrev pub file_unchecked : FileFault → Unchecked
+file_unchecked file.Missing = unchecked.Missing
+file_unchecked file.Failed = unchecked.Failed
 
 -- why an input gives no instance: its object failed, memory was refused, or it is how the run ends, whatever is asked of the instance
 abbrev pub GivesNone : (List ℕ → Type 0) → Content → Fault → Type 0
@@ -117,10 +157,10 @@ GivesNone unread content f = (answer : Instance → Ending) → IfSome (instance
 
 -- why a question on an instance has no answer: memory was refused, or it has none for this kind
 abbrev pub HasNoAnswer : Question → Instance → Fault → Type 0
-HasNoAnswer question item (fault.Instance f) = question_outcome question item ≡ Err (fault.Instance f)
-HasNoAnswer question item (fault.NotThisCommand kind) = question_outcome question item ≡ Err (fault.NotThisCommand kind)
-HasNoAnswer question item fault.Memory = Unit {0}
-HasNoAnswer question item _ = ⊥
+HasNoAnswer question instance (fault.Instance f) = question_outcome question instance ≡ Err (fault.Instance f)
+HasNoAnswer question instance (fault.NotThisCommand kind) = question_outcome question instance ≡ Err (fault.NotThisCommand kind)
+HasNoAnswer question instance fault.Memory = Unit {0}
+HasNoAnswer question instance _ = ⊥
 
 -- a refusal before anything is written has its cause: an input failed, memory was refused, or it is how the run ends
 abbrev pub IsRefused : (List ℕ → Type 0) → Ending → Fault → Type 0
@@ -137,16 +177,16 @@ pub record IsToldOf (refusal : Fault) (given : Status) (before now : ℕ) (old n
   pub part : AppendsPrefix old new (fault_message told)
   pub whole : (given ≡ status.Memory) ⊎ (Appends old new (fault_message told) ⊎ Rose before now)
 
--- the fault that a run's message tells is the cause of its status: where that is decided by the words and the inputs, it is how the run ends; a read fault is of an input whose object failed
-abbrev pub IsCause : Counts → Ending → List (String Global) → Status → Fault → Type 0
-IsCause counts ending words given (fault.ReadFault name) = IsUnread counts words (command_of words) name
-IsCause counts ending words given f = IsDecided given → IfSome ending (λ end. end ≡ Err f)
+-- the fault that a run's message tells is the cause of its status: where that is decided by the words and the inputs, it is how the run ends; a read fault is of an input that the run comes to read and whose object failed
+abbrev pub IsCause : Counts → Ending → (Origin → Type 0) → Status → Fault → Type 0
+IsCause counts ending reads given (fault.ReadFault name) = IsUnread counts reads name
+IsCause counts ending reads given f = IsDecided given → IfSome ending (λ end. end ≡ Err f)
 
 -- what a run that isn't done puts on standard error: the message of a fault that has the run's status and is its cause; it is whole where no fault came and memory wasn't wanting
-pub record IsTold (counts : Counts) (ending : Ending) (words : List (String Global)) (given : Status) (before now : ℕ) (old new : Option (List ℕ)) : Type 0 where
+pub record IsTold (counts : Counts) (ending : Ending) (reads : Origin → Type 0) (given : Status) (before now : ℕ) (old new : Option (List ℕ)) : Type 0 where
   pub refusal : Fault
   pub status_is : given ≡ status_of refusal
-  pub cause : IsCause counts ending words given refusal
+  pub cause : IsCause counts ending reads given refusal
   pub part : AppendsPrefix old new (fault_message refusal)
   pub whole : (given ≡ status.Memory) ⊎ (Appends old new (fault_message refusal) ⊎ Rose before now)
 

@@ -1,8 +1,10 @@
 -- What a check of the certificate of an input says.
-use Rattle.std.specs.Prelude.{◌≡◌, ℕ, List, length, IfSome, Option, Result, Ok}
-use Rattle.std.specs.Io.KnownBytes.{Consumes}
+use Rattle.std.specs.Prelude.{◌≡◌, ℕ, ◌<◌, ◌≤◌, List, ◌++◌, length, take, IfSome, Option, Some, None, Result, Ok}
+use Rattle.std.specs.Io.KnownBytes.{Consumes, IsAtEnd}
 use Rattle.decision_model.specs.declared.instance.Instance.{Instance}
-use Rattle.value_cert.specs.Breaches.{text_breach}
+use Rattle.value_cert.specs.Breaches.{lines_breach, text_breach}
+use Rattle.value_cert.specs.Texts.{lines_text}
+use Rattle.value_cert.specs.declared.line.CertLine.{CertLine}
 use Rattle.cert_check.specs.Meaning.{IsCertified}
 use Rattle.cert_check.specs.TextChecks.{IsTextCheckOf}
 use Rattle.cert_check.specs.Verdicts.{verdict_of}
@@ -10,9 +12,9 @@ use Rattle.cert_check.specs.declared.text_check.TextCheck.{TextCheck}
 use Rattle.cert_check.specs.declared.verdicts.Verdict.{Verdict}
 use Rattle.cert_check.specs.declared.verdicts.Verdict.TheVariants.{Going, Accepted, Rejected}
 use Rattle.report_text.specs.declared.faults.Fault.{Fault}
-use Rattle.stock_edge.specs.HeldFiles.{Held}
+use Rattle.stock_edge.specs.HeldFiles.{Held, GivesHeld}
 use Rattle.stock_edge.specs.KnownFiles.{BeginsFile}
-use Rattle.stock_cli.specs.Inputs.{Content}
+use Rattle.stock_cli.specs.Inputs.{Content, Origin}
 use Rattle.stock_cli.specs.Outcome.{Output, rejection_text, accepted_text}
 use Rattle.stock_cli.specs.declared.status.Status.TheVariants as status
 
@@ -27,26 +29,56 @@ verdict_told (Rejected line rule) = record { status = status.Rejected; text = re
 verdict_told _ = record { status = status.Done; text = accepted_text }
 
 -- the content is a text, and this is the verdict on it; what is accepted names a policy than which none costs less, whoever wrote it
-pub record IsVerdictOf (item : Instance) (verdict : Verdict) (found : Result (List ℕ) Fault) : Type 0 where
+pub record IsVerdictOf (instance : Instance) (verdict : Verdict) (found : Result (List ℕ) Fault) : Type 0 where
   pub text : List ℕ
   pub told : found ≡ Ok text
-  pub verdict_is : verdict ≡ verdict_of (text_breach item text)
-  pub accepted : verdict ≡ Accepted → IsCertified item text
+  pub verdict_is : verdict ≡ verdict_of (text_breach instance text)
+  pub accepted : verdict ≡ Accepted → IsCertified instance text
 
 -- a final verdict, that on the content where it is told
-pub record IsVerdictOn (item : Instance) (content : Content) (verdict : Verdict) : Type 0 where
+pub record IsVerdictOn (instance : Instance) (content : Content) (verdict : Verdict) : Type 0 where
   pub final : IsFinal verdict
-  pub exact : IfSome content (IsVerdictOf item verdict)
+  pub exact : IfSome content (IsVerdictOf instance verdict)
 
--- the check stands for bytes that were taken from the front of those that standard input held
-pub record HasTaken (item : Instance) (check : TextCheck) (old now : Option (List ℕ)) : Type 0 where
+-- the bytes are those of lines that all pass, and at most so many more
+pub record PassesUpTo (instance : Instance) (bytes : List ℕ) (most : ℕ) : Type 0 where
+  pub lines : List CertLine
+  pub pass : lines_breach instance lines ≡ None
+  pub behind : List ℕ
+  pub text_is : bytes ≡ lines_text lines ++ behind
+  pub within : length behind ≤ most
+
+-- of the known bytes, where they are told, those of lines that all pass were taken, and at most so many more
+pub record TakesPast (instance : Instance) (old new : Option (List ℕ)) (most : ℕ) : Type 0 where
   pub bytes : List ℕ
-  pub stands : IsTextCheckOf item check bytes
+  pub taken : Consumes old new bytes
+  pub passes : PassesUpTo instance bytes most
+
+-- how far a check reads: a line that goes on for 128 bytes is rejected, and a piece has 4,096 bytes
+abbrev pub Reaches : Instance → Option (List ℕ) → Option (List ℕ) → Type 0
+Reaches instance old new = TakesPast instance old new 4224
+
+-- ---- the pieces of a certificate
+-- the next piece of an input, of which so many bytes came before; none only at its end
+abbrev pub GivesNext : Origin → Option (List ℕ) → Option (List ℕ) → Option Held → ℕ → List ℕ → ℕ → Type 0
+GivesNext None old new held before buf count = Consumes old new (take count buf) × (count ≡ 0 → 0 < length buf → IsAtEnd new)
+GivesNext (Some name) old new held before buf count = GivesHeld held name before buf count
+
+-- the check stands for bytes that were taken from the front of those that standard input held; lines that all pass, and fewer bytes than a line may have
+pub record HasTaken (instance : Instance) (check : TextCheck) (old now : Option (List ℕ)) : Type 0 where
+  pub bytes : List ℕ
+  pub stands : IsTextCheckOf instance check bytes
   pub taken : Consumes old now bytes
+  pub passes : PassesUpTo instance bytes 128
 
 -- the check stands for the first bytes of a file, so many
-pub record HasRead (item : Instance) (check : TextCheck) (held : Option Held) (name : List ℕ) (count : ℕ) : Type 0 where
+pub record HasRead (instance : Instance) (check : TextCheck) (held : Option Held) (name : List ℕ) (count : ℕ) : Type 0 where
   pub bytes : List ℕ
-  pub stands : IsTextCheckOf item check bytes
+  pub stands : IsTextCheckOf instance check bytes
   pub begins : BeginsFile held name bytes
   pub counted : length bytes ≡ count
+
+-- the check stands for the bytes of an input that came, so many of them
+abbrev pub HasCome : Instance → TextCheck → Origin → Option (List ℕ) → Option (List ℕ) → Option Held → ℕ → Type 0
+HasCome instance check None old now held count = HasTaken instance check old now
+HasCome instance check (Some name) old now held count = HasRead instance check held name count

@@ -1,4 +1,4 @@
--- What the inputs of a command hold. An input is standard input, or the file that the word at a place names, from 0.
+-- What the inputs of a command are, and what they hold. Places among the words count from 0.
 use Rattle.std.specs.Prelude.{◌≡◌, ℕ, ◌≤◌, List, [], length, map, codes, slice_index_or, Option, Some, None, Result, Ok, Err, String, string_bytes}
 use Rattle.std.specs.declared.alloc.Global.{Global}
 use Rattle.decision_model.specs.declared.instance.Instance.{Instance}
@@ -6,15 +6,30 @@ use Rattle.instance_json.specs.Reads.{reads}
 use Rattle.report_text.specs.declared.faults.Fault.{Fault}
 use Rattle.report_text.specs.declared.faults.Fault.TheVariants as fault
 use Rattle.stock_edge.specs.HeldFiles.{Held}
+use Rattle.stock_cli.specs.declared.inputs.Input.{Input}
+use Rattle.stock_cli.specs.declared.inputs.Input.TheVariants as input
 
 -- the word at a place
 abbrev pub word_at : List (String Global) → ℕ → List ℕ
 word_at words place = slice_index_or (map string_bytes words) place []
 
+-- what a command reads from: the file of a name, or standard input, which is none
+abbrev pub Origin : Type 0
+Origin = Option (List ℕ)
+
+abbrev pub origin_of : Input → Origin
+origin_of input.Standard = None
+origin_of (input.File name) = Some name.now
+
+-- what a place among the words means
+abbrev pub input_at : List (String Global) → Option ℕ → Origin
+input_at words None = None
+input_at words (Some place) = Some (word_at words place)
+
 -- the name of an input, as messages tell it
-abbrev pub input_name : List (String Global) → Option ℕ → List ℕ
-input_name words None = codes "-"
-input_name words (Some place) = word_at words place
+abbrev pub input_name : Origin → List ℕ
+input_name None = codes "-"
+input_name (Some name) = name
 
 -- the bytes of a file, or that there is none
 abbrev pub file_content : List ℕ → Option (List ℕ) → Result (List ℕ) Fault
@@ -36,13 +51,13 @@ named_content None name = None
 named_content (Some files) name = Some (file_content name (files name))
 
 -- what an input holds
-abbrev pub content_of : Option (List ℕ) → Option Held → List (String Global) → Option ℕ → Content
-content_of left held words None = standard_content left
-content_of left held words (Some place) = named_content held (word_at words place)
+abbrev pub content_of : Option (List ℕ) → Option Held → Origin → Content
+content_of left held None = standard_content left
+content_of left held (Some name) = named_content held name
 
 -- the content is that of this instance, whose bytes are not too many
-pub record SaysInstance (content : Result (List ℕ) Fault) (item : Instance) : Type 0 where
+pub record SaysInstance (content : Result (List ℕ) Fault) (instance : Instance) : Type 0 where
   pub bytes : List ℕ
   pub told : content ≡ Ok bytes
   pub fits : length bytes ≤ 1048576
-  pub said : reads bytes ≡ Ok item
+  pub said : reads bytes ≡ Ok instance

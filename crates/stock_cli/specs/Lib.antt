@@ -5,3 +5,4 @@ pub mod Outcome
 pub mod Claims
 pub mod Causes
 pub mod Checks
+pub mod Solvers

@@ -3,26 +3,25 @@ use Rattle.std.specs.Prelude.{ℕ, List, [], ◌++◌, length, codes, decimal, i
 use Rattle.std.specs.declared.alloc.Global.{Global}
 use Rattle.decision_model.specs.Kind.{kind_of}
 use Rattle.decision_model.specs.declared.instance.Instance.{Instance}
-use Rattle.decision_model.specs.declared.instance.Instance.TheVariants.{News, Lots, Finite, Average, Serial}
 use Rattle.instance_json.specs.Reads.{reads}
 use Rattle.instance_json.specs.declared.fault.InstanceFault.{InstanceFault}
-use Rattle.instance_json.specs.declared.fault.InstanceFault.TheVariants as instance
+use Rattle.instance_json.specs.declared.fault.InstanceFault.TheVariants as instance_fault
 use Rattle.value_cert.specs.Breaches.{Breach, text_breach}
 use Rattle.value_cert.specs.Meaning.{solved_cert}
 use Rattle.value_cert.specs.Texts.{HasText, cert_text}
-use Rattle.value_cert.specs.declared.certificates.Cert.{Cert}
-use Rattle.report_text.specs.Demand.{demand_text_of}
+use Rattle.value_cert.specs.declared.cert.Cert.{Cert}
+use Rattle.report_text.specs.Demand.{has_laws, demand_text_of}
 use Rattle.report_text.specs.Reports.{report_of, help_words}
 use Rattle.report_text.specs.declared.faults.Fault.{Fault}
 use Rattle.report_text.specs.declared.faults.Fault.TheVariants as fault
 use Rattle.stock_edge.specs.HeldFiles.{Held}
-use Rattle.stock_cli.specs.Inputs.{Content, content_of}
+use Rattle.stock_cli.specs.Inputs.{Content, content_of, input_at}
 use Rattle.stock_cli.specs.Status.{status_of, word_fault}
 use Rattle.stock_cli.specs.Words.{command_of}
 use Rattle.stock_cli.specs.declared.answers.Answer.{Answer}
 use Rattle.stock_cli.specs.declared.answers.Answer.TheVariants as answer
-use Rattle.stock_cli.specs.declared.answers.Question.{Question}
-use Rattle.stock_cli.specs.declared.answers.Question.TheVariants as question
+use Rattle.stock_cli.specs.declared.commands.Question.{Question}
+use Rattle.stock_cli.specs.declared.commands.Question.TheVariants as question
 use Rattle.stock_cli.specs.declared.words.Command.{Command}
 use Rattle.stock_cli.specs.declared.words.Command.TheVariants as command
 use Rattle.stock_cli.specs.declared.words.WordErr.{WordErr}
@@ -48,18 +47,23 @@ refused f = Some (Err f)
 -- something of the instance's certificate, for the kinds whose solver is built
 abbrev pub of_cert : (Cert → List ℕ) → Option Cert → Result Output Fault
 of_cert text (Some c) = done (text c)
-of_cert text None = Err (fault.Instance instance.NotBuilt)
+of_cert text None = Err (fault.Instance instance_fault.NotBuilt)
 
 abbrev pub solve_outcome : Instance → Result Output Fault
-solve_outcome item = of_cert (report_of item) (solved_cert item)
+solve_outcome instance = of_cert (report_of instance) (solved_cert instance)
 
 abbrev pub certify_outcome : Instance → Result Output Fault
-certify_outcome item = of_cert cert_text (solved_cert item)
+certify_outcome instance = of_cert cert_text (solved_cert instance)
 
 -- the laws of demand, for the kinds that have them
 abbrev pub demand_outcome : Instance → Result Output Fault
-demand_outcome (Lots item) = Err (fault.NotThisCommand (kind_of (Lots item)))
-demand_outcome item = done (demand_text_of item)
+demand_outcome instance = if has_laws instance then done (demand_text_of instance) else Err (fault.NotThisCommand (kind_of instance))
+
+-- a question that needs one instance and nothing else
+abbrev pub question_outcome : Question → Instance → Result Output Fault
+question_outcome question.Solve instance = solve_outcome instance
+question_outcome question.Certify instance = certify_outcome instance
+question_outcome question.Demand instance = demand_outcome instance
 
 abbrev pub accepted_text : List ℕ
 accepted_text = codes "accepted\n"
@@ -73,18 +77,18 @@ verdict_output None = record { status = Done; text = accepted_text }
 verdict_output (Some breach) = record { status = Rejected; text = rejection_text breach.line breach.rule }
 
 abbrev pub verdict_ending : Instance → Content → Ending
-verdict_ending item None = None
-verdict_ending item (Some (Ok text)) = Some (Ok (verdict_output (text_breach item text)))
-verdict_ending item (Some (Err f)) = refused f
+verdict_ending instance None = None
+verdict_ending instance (Some (Ok text)) = Some (Ok (verdict_output (text_breach instance text)))
+verdict_ending instance (Some (Err f)) = refused f
 
 -- a certificate is checked for the kinds whose solver is built
 abbrev pub check_ending : Content → Instance → Option Cert → Ending
-check_ending content item (Some c) = verdict_ending item content
-check_ending content item None = refused (fault.Instance instance.NotBuilt)
+check_ending content instance (Some c) = verdict_ending instance content
+check_ending content instance None = refused (fault.Instance instance_fault.NotBuilt)
 
 -- ---- reading the instance
 abbrev pub read_ending : (Instance → Ending) → Result Instance InstanceFault → Ending
-read_ending answer (Ok item) = answer item
+read_ending answer (Ok instance) = answer instance
 read_ending answer (Err f) = refused (fault.Instance f)
 
 -- an instance has at most 1,048,576 bytes
@@ -96,20 +100,23 @@ instance_ending answer None = None
 instance_ending answer (Some (Ok bytes)) = bytes_ending answer bytes
 instance_ending answer (Some (Err f)) = refused f
 
--- a check of one input against the instance of another
-abbrev pub compare_ending : Option (List ℕ) → Option Held → List (String Global) → Option ℕ → Option ℕ → Ending
-compare_ending left held words input cert =
-    instance_ending (λ item. check_ending (content_of left held words cert) item (solved_cert item)) (content_of left held words input)
+-- a check of one input's content against the instance of another's
+abbrev pub compare_ending : Content → Content → Ending
+compare_ending content cert = instance_ending (λ instance. check_ending cert instance (solved_cert instance)) content
 
 -- ---- the words
+-- how a question on the instance of an input ends
+abbrev pub question_ending : Question → Content → Ending
+question_ending question content = instance_ending (λ instance. Some (question_outcome question instance)) content
+
 -- how a command ends
 abbrev pub command_ending : Option (List ℕ) → Option Held → List (String Global) → Command → Ending
-command_ending left held words (command.Solve input) = instance_ending (λ item. Some (solve_outcome item)) (content_of left held words input)
-command_ending left held words (command.Certify input) = instance_ending (λ item. Some (certify_outcome item)) (content_of left held words input)
-command_ending left held words (command.Demand input) = instance_ending (λ item. Some (demand_outcome item)) (content_of left held words input)
+command_ending left held words (command.Solve place) = question_ending question.Solve (content_of left held (input_at words place))
+command_ending left held words (command.Certify place) = question_ending question.Certify (content_of left held (input_at words place))
+command_ending left held words (command.Demand place) = question_ending question.Demand (content_of left held (input_at words place))
 command_ending left held words (command.Check None None) = refused (fault.TwoInputs 3)
-command_ending left held words (command.Check input cert) = compare_ending left held words input cert
-command_ending left held words (command.Simulate input) = refused fault.NotBuilt
+command_ending left held words (command.Check place cert) = compare_ending (content_of left held (input_at words place)) (content_of left held (input_at words cert))
+command_ending left held words (command.Simulate place) = refused fault.NotBuilt
 command_ending left held words (command.Trial number) = refused fault.NotBuilt
 command_ending left held words command.Help = Some (done help_words)
 
@@ -130,12 +137,6 @@ status_of_outcome (Ok output) = output.status
 status_of_outcome (Err f) = status_of f
 
 -- ---- answers
--- a question that needs one instance and nothing else
-abbrev pub question_outcome : Question → Instance → Result Output Fault
-question_outcome question.Solve item = solve_outcome item
-question_outcome question.Certify item = certify_outcome item
-question_outcome question.Demand item = demand_outcome item
-
 -- what an answer puts on standard output, and the status with it
 abbrev pub output_of : Answer → Output
 output_of (answer.Printed text) = record { status = Done; text = text }

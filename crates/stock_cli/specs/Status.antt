@@ -1,7 +1,7 @@
 -- What each status means.
 use Rattle.std.specs.Prelude.{ℕ}
 use Rattle.instance_json.specs.declared.fault.InstanceFault.{InstanceFault}
-use Rattle.instance_json.specs.declared.fault.InstanceFault.TheVariants as instance
+use Rattle.instance_json.specs.declared.fault.InstanceFault.TheVariants as instance_fault
 use Rattle.report_text.specs.declared.faults.Fault.{Fault}
 use Rattle.report_text.specs.declared.faults.Fault.TheVariants as fault
 use Rattle.stock_cli.specs.declared.words.WordErr.{WordErr}
@@ -42,7 +42,7 @@ WritesNothing _ = ⊥
 
 -- the status of a run that is refused for an instance's fault
 abbrev pub instance_status : InstanceFault → Status
-instance_status instance.Width = Width
+instance_status instance_fault.Width = Width
 instance_status _ = Input
 
 -- the status of a run that is refused for a fault

@@ -3,13 +3,13 @@ ghost use Rattle.std.specs.Prelude.{◌≡◌, ◌≢◌, ◌⊎◌, ℕ, ◌≤
 ghost use Rattle.std.specs.Io.KnownBytes.{IsAtEnd};
 ghost use Rattle.decision_model.specs.Valid.{IsValid};
 ghost use Rattle.stock_edge.specs.Causes.{Rose};
-ghost use Rattle.stock_cli.specs.Causes.{counts_of, FailedAt, NotRead, IsNoInstance, GivesNone};
+ghost use Rattle.stock_cli.specs.Causes.{counts_of, FailedAt, NotRead, GivesNone};
 ghost use Rattle.stock_cli.specs.Status.{IsOfInputs};
-ghost use Rattle.stock_cli.specs.Inputs.{word_at, standard_content, named_content, content_of, SaysInstance};
+ghost use Rattle.stock_cli.specs.Inputs.{word_at, origin_of, input_at, input_name, standard_content, named_content, content_of, SaysInstance};
 
 use decision_model::Instance;
 use fraction128::{Memory, Text};
-use instance_json::{InstanceErr, read_instance};
+use instance_json::read_instance;
 use report_text::Fault;
 use std::alloc::Global;
 use stock_edge::{FileErr, Files, ReadErr, Source, read_all, read_file};
@@ -17,13 +17,44 @@ use stock_edge::{FileErr, Files, ReadErr, Source, read_all, read_file};
 /// The greatest number of bytes of an instance.
 const LONGEST: usize = 1_048_576;
 
+/// What a command reads from.
+#[derive(Clone, Copy, Debug, PartialEq, Eq)]
+pub enum Input<'a> {
+    /// Standard input.
+    Standard,
+    /// The file of this name.
+    File(&'a str),
+}
+
 // The word at a place, from 0.
-pub fn word(words: &[String], place: usize) -> &str
+fn word(words: &[String], place: usize) -> &str
     ensures { result.now ≡ word_at words.now place }
 {
     match words.get(place) {
         Some(word) => word.as_str(),
         None => "",
+    }
+}
+
+impl<'a> Input<'a> {
+    /// What a place among the words means, from 0, or none.
+    pub fn named(words: &'a [String], place: Option<usize>) -> Input<'a>
+        ensures { origin_of result ≡ input_at words.now place }
+    {
+        match place {
+            None => Input::Standard,
+            Some(place) => Input::File(word(words, place)),
+        }
+    }
+
+    /// The name, as messages tell it.
+    pub fn name(&self) -> &'a str
+        ensures { result.now ≡ input_name (origin_of self.now) }
+    {
+        match self {
+            Input::Standard => "-",
+            Input::File(name) => name,
+        }
     }
 }
 
@@ -80,7 +111,7 @@ fn read_named<F: Files>(alloc: Global, files: &mut F, name: &str) -> Result<Vec<
     ensures none { IfErr result (NotRead
         (λ told. (told ≡ name.now) × Rose (F.faults files.old) (F.faults files.new)) (named_content (F.held files.old) name.now)) }
     ensures later { F.faults files.old ≤ F.faults files.new }
-    ensures same { F.held files.new ≡ F.held files.old }
+    ensures same_held { F.held files.new ≡ F.held files.old }
 {
     match read_file(alloc, files, name, LONGEST) {
         Ok(bytes) => Ok(bytes),
@@ -94,64 +125,49 @@ fn read_named<F: Files>(alloc: Global, files: &mut F, name: &str) -> Result<Vec<
 // All bytes of an input.
 fn read_input<I: Source, F: Files>(
     alloc: Global,
-    words: &[String],
-    at: Option<usize>,
+    from: &Input<'_>,
     input: &mut I,
     files: &mut F,
 ) -> Result<Vec<u8>, Fault>
-    ensures told { IfOk result (λ bytes.
-        IfSome (content_of (I.left input.old) (F.held files.old) words.now at) (λ found. found ≡ Ok bytes.items)) }
+    ensures told { IfOk result (λ bytes. IfSome (content_of (I.left input.old) (F.held files.old) (origin_of from.now)) (λ found. found ≡ Ok bytes.items)) }
     ensures fits { IfOk result (λ bytes. length bytes.items ≤ 1048576) }
-    ensures end { OnOk result (at ≡ None → IsAtEnd (I.left input.new)) }
+    ensures end { OnOk result (origin_of from.now ≡ None → IsAtEnd (I.left input.new)) }
     ensures none { IfErr result (NotRead
-        (FailedAt (counts_of (I.faults input.old) (I.faults input.new) (F.faults files.old) (F.faults files.new)) words.now at)
-        (content_of (I.left input.old) (F.held files.old) words.now at)) }
+        (FailedAt (counts_of (I.faults input.old) (I.faults input.new) (F.faults files.old) (F.faults files.new)) (origin_of from.now))
+        (content_of (I.left input.old) (F.held files.old) (origin_of from.now))) }
     ensures later_input { I.faults input.old ≤ I.faults input.new }
     ensures later_files { F.faults files.old ≤ F.faults files.new }
-    ensures same_files { F.held files.new ≡ F.held files.old }
-    ensures same_input { at ≢ None → input.new ≡ input.old }
+    ensures same_held { F.held files.new ≡ F.held files.old }
+    ensures same_input { origin_of from.now ≢ None → input.new ≡ input.old }
+    ensures same_files { origin_of from.now ≡ None → files.new ≡ files.old }
 {
-    match at {
-        None => read_standard(alloc, input),
-        Some(place) => read_named(alloc, files, word(words, place)),
+    match from {
+        Input::Standard => read_standard(alloc, input),
+        Input::File(name) => read_named(alloc, files, name),
     }
 }
 
-// The instance that bytes say, of which there are not too many.
-fn instance_of(alloc: Global, bytes: &[u8]) -> Result<Instance, Fault>
-    requires { length bytes.now ≤ 1048576 }
-    ensures said { IfOk result (λ item. SaysInstance (Ok bytes.now) item) }
-    ensures valid { IfOk result IsValid }
-    ensures none { IfErr result (IsNoInstance bytes.now) }
-{
-    match read_instance(alloc, bytes) {
-        Ok(item) => Ok(item),
-        Err(InstanceErr::Bad(fault)) => Err(Fault::Instance(fault)),
-        Err(InstanceErr::Memory) => Err(Fault::Memory),
-    }
-}
-
-// The instance of an input.
-pub fn read_item<I: Source, F: Files>(
+/// The instance of an input.
+pub fn read_from<I: Source, F: Files>(
     alloc: Global,
-    words: &[String],
-    at: Option<usize>,
+    from: &Input<'_>,
     input: &mut I,
     files: &mut F,
 ) -> Result<Instance, Fault>
-    ensures said { IfOk result (λ item.
-        IfSome (content_of (I.left input.old) (F.held files.old) words.now at) (λ found. SaysInstance found item)) }
+    ensures said { IfOk result (λ instance. IfSome (content_of (I.left input.old) (F.held files.old) (origin_of from.now)) (λ found. SaysInstance found instance)) }
     ensures valid { IfOk result IsValid }
-    ensures end { OnOk result (at ≡ None → IsAtEnd (I.left input.new)) }
+    ensures end { OnOk result (origin_of from.now ≡ None → IsAtEnd (I.left input.new)) }
     ensures none { IfErr result (GivesNone
-        (FailedAt (counts_of (I.faults input.old) (I.faults input.new) (F.faults files.old) (F.faults files.new)) words.now at)
-        (content_of (I.left input.old) (F.held files.old) words.now at)) }
+        (FailedAt (counts_of (I.faults input.old) (I.faults input.new) (F.faults files.old) (F.faults files.new)) (origin_of from.now))
+        (content_of (I.left input.old) (F.held files.old) (origin_of from.now))) }
     ensures later_input { I.faults input.old ≤ I.faults input.new }
     ensures later_files { F.faults files.old ≤ F.faults files.new }
     ensures of_inputs { IfErr result IsOfInputs }
-    ensures same_files { F.held files.new ≡ F.held files.old }
-    ensures same_input { at ≢ None → input.new ≡ input.old }
+    ensures same_held { F.held files.new ≡ F.held files.old }
+    ensures same_input { origin_of from.now ≢ None → input.new ≡ input.old }
+    ensures same_files { origin_of from.now ≡ None → files.new ≡ files.old }
 {
-    let bytes = read_input(alloc, words, at, input, files)?;
-    instance_of(alloc, &bytes)
+    let bytes = read_input(alloc, from, input, files)?;
+    let instance = read_instance(alloc, &bytes)?;
+    Ok(instance)
 }

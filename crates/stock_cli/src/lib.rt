@@ -3,8 +3,14 @@
 #![tactic(auto)]
 
 mod answers;
+mod certificates;
+mod certify;
 mod check;
+mod commands;
+mod demand;
 mod inputs;
+mod solve;
+mod solvers;
 mod status;
 #[cfg(test)]
 mod tests;

@@ -1,19 +1,21 @@
 // The top call.
-ghost use Rattle.std.specs.Prelude.{◌≡◌, ◌≢◌, ◌⊎◌, ◌≤◌, ℕ, List, None, Some, Ok, Err, IfOk, IfErr, OnOk, IfSome, IsOk, IsSome};
+ghost use Rattle.std.specs.Prelude.{◌≡◌, ◌⊎◌, ◌≤◌, ℕ, List, None, Some, Ok, Err, IfOk, IfErr, IfSome, IsOk, IsSome, IsSomeAnd};
 ghost use Rattle.std.specs.Io.KnownBytes.{Appends, IsAtEnd, Keeps};
+ghost use Rattle.std.specs.declared.option.Option.{Option};
+ghost use Rattle.decision_model.specs.declared.instance.Instance.{Instance};
 ghost use Rattle.stock_edge.specs.Causes.{Rose, AppendsPrefix};
-ghost use Rattle.stock_cli.specs.Causes.{command_fault, words_fault, IsInputOf, IsCheck, ReadsInput, counts_of, FailedAt, FailedAtOneOf, IsUnread, IsRefused, IsToldOf, IsTold, HasMessage};
-ghost use Rattle.stock_cli.specs.Claims.{OfInstance, QuestionClaims, CompareClaims, Claims};
-ghost use Rattle.stock_cli.specs.Inputs.{content_of};
-ghost use Rattle.stock_cli.specs.Outcome.{instance_ending, question_outcome, compare_ending, command_ending, ending_of, output_of, AnswerHasText, status_of_outcome, text_of};
-ghost use Rattle.stock_cli.specs.Status.{IsDecided, IsGiven, IsOfInputs, WritesNothing, word_fault};
+ghost use Rattle.stock_cli.specs.Causes.{words_fault, IsCheck, TakesInput, ReadsInput, ReadsNoFile, counts_of, FailsOne, IsUnread, IsRefused, IsToldOf, IsTold, HasMessage};
+ghost use Rattle.stock_cli.specs.Checks.{Reaches};
+ghost use Rattle.stock_cli.specs.Claims.{Claims};
+ghost use Rattle.stock_cli.specs.Inputs.{SaysInstance, content_of, input_at};
+ghost use Rattle.stock_cli.specs.Outcome.{ending_of, output_of, AnswerHasText, status_of_outcome, text_of};
+ghost use Rattle.stock_cli.specs.Status.{IsDecided, IsGiven, IsOfInputs, WritesNothing};
 ghost use Rattle.stock_cli.specs.Words.{command_of};
 
-use crate::answers::{Answer, Question, answer_on, status_with, write_answer};
-use crate::check::check;
-use crate::inputs::read_item;
+use crate::answers::{Answer, status_with, write_answer};
+use crate::commands::answer;
 use crate::status::{Status, status_for};
-use crate::words::{Command, WordErr, read_words};
+use crate::words::{Command, read_words};
 use fraction128::Memory;
 use report_text::{Fault, fault_text};
 use std::alloc::Global;
@@ -22,142 +24,6 @@ use stock_edge::{Files, Sink, Source, write_all};
 /// The message of an output that failed, for which no memory is taken.
 const CANNOT_WRITE: &[u8] = b"stock: cannot write\n";
 
-// The answer to a question on the instance of an input.
-fn ask<I: Source, F: Files>(
-    alloc: Global,
-    question: Question,
-    words: &[String],
-    at: Option<usize>,
-    input: &mut I,
-    files: &mut F,
-) -> Result<Answer, Fault>
-    ensures ok { IfOk result (λ answer. IfSome
-        (instance_ending (λ item. Some (question_outcome question item)) (content_of (I.left input.old) (F.held files.old) words.now at))
-        (λ end. end ≡ Ok (output_of answer))) }
-    ensures claims { IfOk result (λ answer. IfSome (content_of (I.left input.old) (F.held files.old) words.now at)
-        (λ found. OfInstance found (QuestionClaims question (output_of answer).text))) }
-    ensures done { IfOk result (λ answer. (output_of answer).status ≡ Status.Done) }
-    ensures has_text { IfOk result AnswerHasText }
-    ensures end { OnOk result (at ≡ None → IsAtEnd (I.left input.new)) }
-    ensures refused { IfErr result (IsRefused
-        (FailedAt (counts_of (I.faults input.old) (I.faults input.new) (F.faults files.old) (F.faults files.new)) words.now at)
-        (instance_ending (λ item. Some (question_outcome question item)) (content_of (I.left input.old) (F.held files.old) words.now at))) }
-    ensures of_inputs { IfErr result IsOfInputs }
-    ensures later_input { I.faults input.old ≤ I.faults input.new }
-    ensures later_files { F.faults files.old ≤ F.faults files.new }
-{
-    let item = read_item(alloc, words, at, input, files)?;
-    answer_on(alloc, question, &item)
-}
-
-// The answer to a check of one input against the instance of another, one of them a file.
-fn compare<I: Source, F: Files>(
-    alloc: Global,
-    words: &[String],
-    at: Option<usize>,
-    cert_at: Option<usize>,
-    input: &mut I,
-    files: &mut F,
-) -> Result<Answer, Fault>
-    requires { at ≡ None → cert_at ≡ None → ⊥ }
-    ensures ok { IfOk result (λ answer. IfSome
-        (compare_ending (I.left input.old) (F.held files.old) words.now at cert_at) (λ end. end ≡ Ok (output_of answer))) }
-    ensures claims { IfOk result (λ answer. (output_of answer).status ≡ Status.Done →
-        CompareClaims (I.left input.old) (F.held files.old) words.now at cert_at) }
-    ensures has_text { IfOk result AnswerHasText }
-    ensures end_item { IfOk result (λ answer. at ≡ None → IsAtEnd (I.left input.new)) }
-    ensures end_cert { IfOk result (λ answer. (output_of answer).status ≡ Status.Done → cert_at ≡ None → IsAtEnd (I.left input.new)) }
-    ensures refused { IfErr result (IsRefused
-        (FailedAtOneOf (counts_of (I.faults input.old) (I.faults input.new) (F.faults files.old) (F.faults files.new)) words.now at cert_at)
-        (compare_ending (I.left input.old) (F.held files.old) words.now at cert_at)) }
-    ensures of_inputs { IfErr result IsOfInputs }
-    ensures later_input { I.faults input.old ≤ I.faults input.new }
-    ensures later_files { F.faults files.old ≤ F.faults files.new }
-{
-    let item = read_item(alloc, words, at, input, files)?;
-    check(alloc, &item, words, cert_at, input, files)
-}
-
-// The answer to a check, which doesn't take both inputs from standard input.
-fn answer_check<I: Source, F: Files>(
-    alloc: Global,
-    words: &[String],
-    at: Option<usize>,
-    cert_at: Option<usize>,
-    input: &mut I,
-    files: &mut F,
-) -> Result<Answer, Fault>
-    ensures ok { IfOk result (λ answer. IfSome
-        (command_ending (I.left input.old) (F.held files.old) words.now (Command.Check at cert_at)) (λ end. end ≡ Ok (output_of answer))) }
-    ensures claims { IfOk result (λ answer. (output_of answer).status ≡ Status.Done →
-        Claims (I.left input.old) (F.held files.old) words.now (output_of answer).text (Command.Check at cert_at)) }
-    ensures has_text { IfOk result AnswerHasText }
-    ensures end { IfOk result (λ answer. (output_of answer).status ≡ Status.Done → IsInputOf (Command.Check at cert_at) None → IsAtEnd (I.left input.new)) }
-    ensures refused { IfErr result (IsRefused
-        (IsUnread (counts_of (I.faults input.old) (I.faults input.new) (F.faults files.old) (F.faults files.new)) words.now (Ok (Command.Check at cert_at)))
-        (command_ending (I.left input.old) (F.held files.old) words.now (Command.Check at cert_at))) }
-    ensures of_words { IfErr result (λ fault. IsOfInputs fault ⊎ (command_fault (Command.Check at cert_at) ≡ Some fault)) }
-    ensures built { (fault : Fault) → command_fault (Command.Check at cert_at) ≡ Some fault → result ≡ Err fault }
-    ensures later_input { I.faults input.old ≤ I.faults input.new }
-    ensures later_files { F.faults files.old ≤ F.faults files.new }
-{
-    match (at, cert_at) {
-        (None, None) => Err(Fault::TwoInputs(3)),
-        _ => compare(alloc, words, at, cert_at, input, files),
-    }
-}
-
-// What is to be written, before any of it is.
-fn answer<I: Source, F: Files>(
-    alloc: Global,
-    words: &[String],
-    command: Command,
-    input: &mut I,
-    files: &mut F,
-) -> Result<Answer, Fault>
-    ensures ok { IfOk result (λ answer. IfSome
-        (command_ending (I.left input.old) (F.held files.old) words.now command) (λ end. end ≡ Ok (output_of answer))) }
-    ensures claims { IfOk result (λ answer. (output_of answer).status ≡ Status.Done →
-        Claims (I.left input.old) (F.held files.old) words.now (output_of answer).text command) }
-    ensures has_text { IfOk result AnswerHasText }
-    ensures end { IfOk result (λ answer. (output_of answer).status ≡ Status.Done → IsInputOf command None → IsAtEnd (I.left input.new)) }
-    ensures rejects { IfOk result (λ answer. (output_of answer).status ≡ Status.Rejected → IsCheck (Ok command)) }
-    ensures help { command ≡ Command.Help → IsOk result }
-    ensures built { (fault : Fault) → command_fault command ≡ Some fault → result ≡ Err fault }
-    ensures refused { IfErr result (IsRefused
-        (IsUnread (counts_of (I.faults input.old) (I.faults input.new) (F.faults files.old) (F.faults files.new)) words.now (Ok command))
-        (command_ending (I.left input.old) (F.held files.old) words.now command)) }
-    ensures of_words { IfErr result (λ fault. IsOfInputs fault ⊎ (command_fault command ≡ Some fault)) }
-    ensures later_input { I.faults input.old ≤ I.faults input.new }
-    ensures later_files { F.faults files.old ≤ F.faults files.new }
-{
-    match command {
-        Command::Solve(at) => ask(alloc, Question::Solve, words, at, input, files),
-        Command::Certify(at) => ask(alloc, Question::Certify, words, at, input, files),
-        Command::Demand(at) => ask(alloc, Question::Demand, words, at, input, files),
-        Command::Check(at, cert_at) => answer_check(alloc, words, at, cert_at, input, files),
-        Command::Simulate(_) => Err(Fault::NotBuilt),
-        Command::Trial(_) => Err(Fault::NotBuilt),
-        Command::Help => Ok(Answer::Help),
-    }
-}
-
-// Why words name no command.
-fn fault_of_words(wrong: WordErr) -> Fault
-    ensures { result ≡ word_fault wrong }
-{
-    match wrong {
-        WordErr::NoCommand => Fault::NoCommand,
-        WordErr::UnknownCommand => Fault::UnknownCommand,
-        WordErr::TooFew(word) => Fault::TooFew(word),
-        WordErr::TooMany(word) => Fault::TooMany(word),
-        WordErr::EmptyName(word) => Fault::EmptyName(word),
-        WordErr::NoOption(word) => Fault::NoOption(word),
-        WordErr::BadNumber(word) => Fault::BadNumber(word),
-        WordErr::TwoInputs(word) => Fault::TwoInputs(word),
-    }
-}
-
 // What is to be written for the words, before any of it is.
 fn perform<I: Source, F: Files>(
     alloc: Global,
@@ -165,25 +31,30 @@ fn perform<I: Source, F: Files>(
     input: &mut I,
     files: &mut F,
 ) -> Result<Answer, Fault>
-    ensures ok { IfOk result (λ answer. IfSome
-        (ending_of (I.left input.old) (F.held files.old) words.now) (λ end. end ≡ Ok (output_of answer))) }
+    ensures ok { IfOk result (λ answer. IfSome (ending_of (I.left input.old) (F.held files.old) words.now) (λ end. end ≡ Ok (output_of answer))) }
     ensures claims { IfOk result (λ answer. (command : Command) → command_of words.now ≡ Ok command → (output_of answer).status ≡ Status.Done →
         Claims (I.left input.old) (F.held files.old) words.now (output_of answer).text command) }
     ensures has_text { IfOk result AnswerHasText }
-    ensures end { IfOk result (λ answer. (output_of answer).status ≡ Status.Done → ReadsInput (command_of words.now) None → IsAtEnd (I.left input.new)) }
+    ensures end { IfOk result (λ answer. (output_of answer).status ≡ Status.Done → TakesInput (command_of words.now) None → IsAtEnd (I.left input.new)) }
     ensures rejects { IfOk result (λ answer. (output_of answer).status ≡ Status.Rejected → IsCheck (command_of words.now)) }
     ensures help { command_of words.now ≡ Ok Command.Help → IsOk result }
     ensures words { (fault : Fault) → words_fault words.now ≡ Some fault → result ≡ Err fault }
     ensures refused { IfErr result (IsRefused
-        (IsUnread (counts_of (I.faults input.old) (I.faults input.new) (F.faults files.old) (F.faults files.new)) words.now (command_of words.now))
+        (IsUnread (counts_of (I.faults input.old) (I.faults input.new) (F.faults files.old) (F.faults files.new))
+        (ReadsInput (I.left input.old) (F.held files.old) words.now (command_of words.now)))
         (ending_of (I.left input.old) (F.held files.old) words.now)) }
     ensures of_words { IfErr result (λ fault. IsOfInputs fault ⊎ (words_fault words.now ≡ Some fault)) }
     ensures later_input { I.faults input.old ≤ I.faults input.new }
     ensures later_files { F.faults files.old ≤ F.faults files.new }
+    ensures spared_input { (ReadsInput (I.left input.old) (F.held files.old) words.now (command_of words.now) None → ⊥) → input.new ≡ input.old }
+    ensures spared_files { ReadsNoFile (ReadsInput (I.left input.old) (F.held files.old) words.now (command_of words.now)) → files.new ≡ files.old }
+    ensures reach { (place : Option ℕ) (instance : Instance) → command_of words.now ≡ Ok (Command.Check place None) →
+        IsSomeAnd (content_of (I.left input.old) (F.held files.old) (input_at words.now place)) (λ found. SaysInstance found instance) →
+        Reaches instance (I.left input.old) (I.left input.new) }
 {
     match read_words(words) {
         Ok(command) => answer(alloc, words, command, input, files),
-        Err(wrong) => Err(fault_of_words(wrong)),
+        Err(wrong) => Err(Fault::from(wrong)),
     }
 }
 
@@ -238,8 +109,10 @@ pub fn stock<I: Source, F: Files, O: Sink, E: Sink>(
     // Each status has its cause, whatever the inputs tell.
     ensures words { result ≡ Status.Words → IsSome (words_fault words.now) }
     ensures no_command { IsSome (words_fault words.now) → (result ≡ Status.Words) ⊎ (result ≡ Status.Memory) }
-    ensures read_fault { result ≡ Status.ReadFault →
-        Rose (I.faults input.old) (I.faults input.new) ⊎ Rose (F.faults files.old) (F.faults files.new) }
+    // A read fault is of an input that the run comes to read: of a certificate's only where the instance stands.
+    ensures read_fault { result ≡ Status.ReadFault → FailsOne
+        (counts_of (I.faults input.old) (I.faults input.new) (F.faults files.old) (F.faults files.new))
+        (ReadsInput (I.left input.old) (F.held files.old) words.now (command_of words.now)) }
     ensures write_fault { result ≡ Status.WriteFault → Rose (O.faults out.old) (O.faults out.new) }
     ensures writing { result ≡ Status.WriteFault → IfSome (ending_of (I.left input.old) (F.held files.old) words.now) IsOk }
     ensures rejects { result ≡ Status.Rejected → IsCheck (command_of words.now) }
@@ -257,12 +130,22 @@ pub fn stock<I: Source, F: Files, O: Sink, E: Sink>(
     ensures claims { (command : Command) → command_of words.now ≡ Ok command → result ≡ Status.Done → (text : List ℕ)
         × Claims (I.left input.old) (F.held files.old) words.now text command × Appends (O.written out.old) (O.written out.new) text }
     // Done means that standard input, where it is read, was read to its end.
-    ensures end { result ≡ Status.Done → ReadsInput (command_of words.now) None → IsAtEnd (I.left input.new) }
+    ensures end { result ≡ Status.Done → TakesInput (command_of words.now) None → IsAtEnd (I.left input.new) }
+
+    // What the run doesn't come to read stays as it was.
+    ensures input_spared { (ReadsInput (I.left input.old) (F.held files.old) words.now (command_of words.now) None → ⊥) →
+        input.new ≡ input.old }
+    ensures files_spared { ReadsNoFile (ReadsInput (I.left input.old) (F.held files.old) words.now (command_of words.now)) → files.new ≡ files.old }
+    // A check takes at most 4,224 bytes of standard input past the lines of its certificate that all pass.
+    ensures reach { (place : Option ℕ) (instance : Instance) → command_of words.now ≡ Ok (Command.Check place None) →
+        IsSomeAnd (content_of (I.left input.old) (F.held files.old) (input_at words.now place)) (λ found. SaysInstance found instance) →
+        Reaches instance (I.left input.old) (I.left input.new) }
 
     // What stands on `err`.
     ensures message { HasMessage result → IsTold
         (counts_of (I.faults input.old) (I.faults input.new) (F.faults files.old) (F.faults files.new))
-        (ending_of (I.left input.old) (F.held files.old) words.now) words.now result
+        (ending_of (I.left input.old) (F.held files.old) words.now)
+        (ReadsInput (I.left input.old) (F.held files.old) words.now (command_of words.now)) result
         (E.faults err.old) (E.faults err.new) (E.written err.old) (E.written err.new) }
     ensures silent { (HasMessage result → ⊥) → Keeps (E.written err.old) (E.written err.new) }
 {

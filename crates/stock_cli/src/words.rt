@@ -1,8 +1,10 @@
 // The words of a run.
 ghost use Rattle.std.specs.Prelude.{◌≡◌, ◌+◌, ◌<◌, ◌≤◌, ◌^◌, map, string_bytes};
 ghost use Rattle.value_cert.specs.Parsing.{word_number};
+ghost use Rattle.stock_cli.specs.Status.{word_fault};
 ghost use Rattle.stock_cli.specs.Words.{command_of, verb_of, input_of, one_input, both_inputs, two_inputs, numbered, one_number, no_word, verb_command};
 
+use report_text::Fault;
 use value_cert::parse_number;
 
 /// What a run is asked for. An input is the place, from 0 among the words, of a file's name, or `None` for standard
@@ -44,6 +46,23 @@ pub enum WordErr {
     BadNumber(u32),
     /// Standard input, which this word means, is already used.
     TwoInputs(u32),
+}
+
+impl From<WordErr> for Fault {
+    ghost from_gives = { λ wrong fault. fault ≡ word_fault wrong };
+
+    fn from(wrong: WordErr) -> Fault {
+        match wrong {
+            WordErr::NoCommand => Fault::NoCommand,
+            WordErr::UnknownCommand => Fault::UnknownCommand,
+            WordErr::TooFew(word) => Fault::TooFew(word),
+            WordErr::TooMany(word) => Fault::TooMany(word),
+            WordErr::EmptyName(word) => Fault::EmptyName(word),
+            WordErr::NoOption(word) => Fault::NoOption(word),
+            WordErr::BadNumber(word) => Fault::BadNumber(word),
+            WordErr::TwoInputs(word) => Fault::TwoInputs(word),
+        }
+    }
 }
 
 /// The first word of a command.

@@ -1,10 +1,6 @@
 -- The lines of orders, up to some period.
-use Rattle.std.proofs.Common.{◌≡◌, ℕ, zero, suc, ◌+◌, ◌<◌, List, [], ◌∷◌, ◌++◌, length, take, drop, get_or, pos, IsTrue, refl, ap, sym, subst, arith, add-one}
-use Rattle.std.specs.List.{list_all}
-use Rattle.value_cert.proofs.Writing.{numbers_front, numbers_rest}
-use Rattle.value_cert.specs.Grammar.{has_numbers}
-use Rattle.value_cert.specs.Texts.{order_lines}
-use Rattle.value_cert.specs.declared.line.CertLine.{CertLine}
+use Rattle.std.proofs.Common.{◌≡◌, ℕ, zero, suc, ◌+◌, ◌<◌, List, [], ◌∷◌, ◌++◌, length, take, drop, get_or, pos, refl, ap, arith, add-one}
+use Rattle.value_cert.specs.Lots.{order_lines}
 use Rattle.value_cert.specs.declared.line.CertLine.TheVariants.{Order}
 
 -- the lines of the first orders, and of the rest
@@ -25,12 +21,3 @@ orders_next (suc i) (x ∷ xs) (y ∷ ys) same within = ap (λ t. Order (pos x) 
 pub orders_more : (i : ℕ) (xs ys : List ℕ) → length ys ≡ length xs → i < length xs →
     order_lines (take (i + 1) xs) (take (i + 1) ys) ≡ order_lines (take i xs) (take i ys) ++ Order (pos (get_or xs i 0)) (pos (get_or ys i 0)) ∷ []
 orders_more i xs ys same within = rw add-one (orders_next i xs ys same within)
-
--- the numbers of one order
-pub order_numbers : (i : ℕ) (xs ys : List ℕ) → length ys ≡ length xs → i < length xs → IsTrue (list_all has_numbers (order_lines xs ys)) →
-    IsTrue (list_all has_numbers (Order (pos (get_or xs i 0)) (pos (get_or ys i 0)) ∷ []))
-order_numbers i xs ys same within h =
-    let P : List CertLine → Type 0 = λ t. IsTrue (list_all has_numbers t) in
-    let line = Order (pos (get_or xs i 0)) (pos (get_or ys i 0)) in
-    let front = numbers_front (order_lines (take (i + 1) xs) (take (i + 1) ys)) (order_lines (drop (i + 1) xs) (drop (i + 1) ys)) (subst P (sym (orders_split (i + 1) xs ys same)) h) in
-    numbers_rest (order_lines (take i xs) (take i ys)) (line ∷ []) (subst P (orders_more i xs ys same within) front)

@@ -1,5 +1,5 @@
 -- Lines that are written one behind the other.
-use Rattle.std.proofs.Common.{◌≡◌, ℕ, ◌+◌, ◌<◌, ◌≤◌, List, [], ◌∷◌, ◌++◌, length, take, drop, get_or, map, Result, Ok, Err, IsErr, IsTrue, ap, ◌∙◌, sym, subst, arith, true, false, Bool, ◌&&◌, refl}
+use Rattle.std.proofs.Common.{◌≡◌, ℕ, ◌+◌, ◌<◌, List, [], ◌∷◌, ◌++◌, length, take, drop, get_or, map, Result, Ok, Err, IsErr, OnOk, OnErr, IsTrue, ap, ◌∙◌, sym, subst, arith, append_assoc}
 use Rattle.std.specs.declared.option.Option.{Option}
 use Rattle.std.specs.Io.KnownBytes.{Appends}
 use Rattle.std.specs.List.{flat_map, list_all}
@@ -13,66 +13,71 @@ use Rattle.value_cert.specs.Grammar.{has_numbers}
 use Rattle.value_cert.specs.Lines.{line_text}
 use Rattle.value_cert.specs.NumberFacts.{both}
 use Rattle.value_cert.specs.Texts.{lines_text}
-use Rattle.value_cert.specs.Writes.{Writes}
+use Rattle.value_cert.specs.Writes.{Output, Took, Writes}
 use Rattle.value_cert.specs.declared.line.CertLine.{CertLine}
 
 -- the text of lines and further ones
 pub lines_text-append : (xs ys : List CertLine) → lines_text (xs ++ ys) ≡ lines_text xs ++ lines_text ys
 lines_text-append xs ys = flat_map-append line_text xs ys
 
--- the text of one line
-pub lines_text-one : (line : CertLine) → lines_text (line ∷ []) ≡ line_text line
-lines_text-one line = append-nil (line_text line)
+-- with no write nothing was taken
+pub took_none : (a : Output) → Took a a []
+took_none a = record { out = []; appended = appends_none a.written; whole = append-nil a.pending; later = omega arith }
 
--- all of the lines were written
-pub record Wrote (old new : Option (List ℕ)) (before now : ℕ) (lines : List CertLine) : Type 0 where
-  pub whole : Appends old new (lines_text lines)
-  pub later : before ≤ now
+-- what a piece holds behind a text that was taken
+taken : (a b : Output) (s t : List ℕ) (h : Took a b s) → a.pending ++ (s ++ t) ≡ h.out ++ (b.pending ++ t)
+taken a b s t h = sym (append_assoc a.pending s t) ∙ ap (λ x. x ++ t) h.whole ∙ append_assoc h.out b.pending t
 
--- without a write no line was written
-pub wrote_none : (a : Option (List ℕ)) (count : ℕ) → Wrote a a count count []
-wrote_none a count = record { whole = appends_none a; later = omega arith }
+-- a text was taken, and then a further one
+pub took_more : (a b c : Output) (s t : List ℕ) → Took a b s → Took b c t → Took a c (s ++ t)
+took_more a b c s t h k = record {
+  out = h.out ++ k.out;
+  appended = appends_more a.written b.written c.written h.out k.out h.appended k.appended;
+  whole = taken a b s t h ∙ ap (λ x. h.out ++ x) k.whole ∙ sym (append_assoc h.out k.out c.pending);
+  later = omega (arith, h.later, k.later);
+}
+
+-- the text of the lines was taken
+pub record Wrote (old new : Output) (lines : List CertLine) : Type 0 where
+  pub took : Took old new (lines_text lines)
+
+pub wrote_none : (a : Output) → Wrote a a []
+wrote_none a = record { took = took_none a }
 
 -- what a write that succeeded wrote
-pub wrote : {T E : Type 0} (a b : Option (List ℕ)) (before now : ℕ) (x : T) (lines : List CertLine) →
-    Writes {T = T} {E = E} a b before now (Ok x) lines → Wrote a b before now lines
-wrote a b before now x lines h = record { whole = h.whole; later = h.cause.later }
+pub wrote : {T E : Type 0} (a b : Output) (x : T) (lines : List CertLine) → Writes {T = T} {E = E} a b (Ok x) lines → Wrote a b lines
+wrote a b x lines h = record { took = h.whole }
 
 -- and back
-pub writes : {T E : Type 0} (a b : Option (List ℕ)) (before now : ℕ) (x : T) (lines : List CertLine) →
-    Wrote a b before now lines → Writes {T = T} {E = E} a b before now (Ok x) lines
-writes a b before now x lines h =
-    record { whole = h.whole; prefix = prefix_whole a b (lines_text lines) h.whole; cause = record { later = h.later; failed = tt } }
+pub writes : {T E : Type 0} (a b : Output) (x : T) (lines : List CertLine) → Wrote a b lines → Writes {T = T} {E = E} a b (Ok x) lines
+writes a b x lines h = record { whole = h.took; prefix = tt; cause = record { later = h.took.later; failed = tt } }
 
 -- lines were written, and then further ones
-pub then_writes : {T E : Type 0} (a b c : Option (List ℕ)) (before mid now : ℕ) (r : Result T E) (xs ys : List CertLine) →
-    Wrote a b before mid xs → Writes b c mid now r ys → Writes a c before now r (xs ++ ys)
-then_writes a b c before mid now (Ok x) xs ys h k =
-    let P : List ℕ → Type 0 = Appends a c in
-    let Q : List ℕ → Type 0 = AppendsPrefix a c in
-    let text = sym (lines_text-append xs ys) in
-    record {
-      whole = subst P text (appends_more a b c (lines_text xs) (lines_text ys) h.whole k.whole);
-      prefix = subst Q text (prefix_more a b c (lines_text xs) (lines_text ys) h.whole k.prefix);
-      cause = record { later = omega (arith, h.later, k.cause.later); failed = tt };
-    }
-then_writes a b c before mid now (Err e) xs ys h k =
-    let Q : List ℕ → Type 0 = AppendsPrefix a c in
+pub then_writes : {T E : Type 0} (a b c : Output) (r : Result T E) (xs ys : List CertLine) →
+    Wrote a b xs → Writes b c r ys → Writes a c r (xs ++ ys)
+then_writes a b c (Ok x) xs ys h k =
+    let P : List ℕ → Type 0 = Took a c in
+    let all = subst P (sym (lines_text-append xs ys)) (took_more a b c (lines_text xs) (lines_text ys) h.took k.whole) in
+    record { whole = all; prefix = tt; cause = record { later = all.later; failed = tt } }
+then_writes a b c (Err e) xs ys h k =
+    let P : List ℕ → Type 0 = AppendsPrefix a.written c.written in
+    let text = ap (λ t. a.pending ++ t) (lines_text-append xs ys) ∙ taken a b (lines_text xs) (lines_text ys) h.took in
     record {
       whole = tt;
-      prefix = subst Q (sym (lines_text-append xs ys)) (prefix_more a b c (lines_text xs) (lines_text ys) h.whole k.prefix);
-      cause = record { later = omega (arith, h.later, k.cause.later); failed = omega (arith, h.later, k.cause.failed) };
+      prefix = subst P (sym text) (prefix_more a.written b.written c.written h.took.out (b.pending ++ lines_text ys) h.took.appended k.prefix);
+      cause = record { later = omega (arith, h.took.later, k.cause.later); failed = omega (arith, h.took.later, k.cause.failed) };
     }
 
 -- writing stopped before further lines
-pub stops_before : {T U E F : Type 0} (a c : Option (List ℕ)) (before now : ℕ) (e : E) (r : Result U F) (xs ys : List CertLine) →
-    IsErr r → Writes {T = T} {E = E} a c before now (Err e) xs → Writes {T = U} {E = F} a c before now r (xs ++ ys)
-stops_before a c before now e (Ok x) xs ys failed h = absurd cc
-stops_before a c before now e (Err f) xs ys failed h =
-    let Q : List ℕ → Type 0 = AppendsPrefix a c in
+pub stops_before : {T U E F : Type 0} (a c : Output) (e : E) (r : Result U F) (xs ys : List CertLine) →
+    IsErr r → Writes {T = T} {E = E} a c (Err e) xs → Writes {T = U} {E = F} a c r (xs ++ ys)
+stops_before a c e (Ok x) xs ys failed h = absurd cc
+stops_before a c e (Err f) xs ys failed h =
+    let P : List ℕ → Type 0 = AppendsPrefix a.written c.written in
+    let text = ap (λ t. a.pending ++ t) (lines_text-append xs ys) ∙ sym (append_assoc a.pending (lines_text xs) (lines_text ys)) in
     record {
       whole = tt;
-      prefix = subst Q (sym (lines_text-append xs ys)) (prefix_longer a c (lines_text xs) (lines_text ys) h.prefix);
+      prefix = subst P (sym text) (prefix_longer a.written c.written (a.pending ++ lines_text xs) (lines_text ys) h.prefix);
       cause = record { later = h.cause.later; failed = h.cause.failed };
     }
 
@@ -103,19 +108,18 @@ part_numbers f xs i x within is h =
     numbers_rest (flat_map f (take i xs)) (f x) (subst P (part_more f xs i x within is) front)
 
 -- a line wasn't written whole, nor what stands behind it
-pub line_failed : {T U E F : Type 0} {a c : Option (List ℕ)} {before now : ℕ} {e : E} {r : Result U F} {line first : CertLine} {rest : List CertLine} →
-    Writes {T = T} {E = E} a c before now (Err e) (line ∷ []) → line ≡ first → IsErr r → Writes {T = U} {E = F} a c before now r (first ∷ rest)
-line_failed {U} {F} {a} {c} {before} {now} {e} {r} {line} {first} {rest} h is failed =
-    let P : CertLine → Type 0 = λ l. Writes {T = U} {E = F} a c before now r (l ∷ rest) in
-    subst P is (stops_before a c before now e r (line ∷ []) rest failed h)
+pub line_failed : {T U E F : Type 0} {a c : Output} {e : E} {r : Result U F} {line first : CertLine} {rest : List CertLine} →
+    Writes {T = T} {E = E} a c (Err e) (line ∷ []) → line ≡ first → IsErr r → Writes {T = U} {E = F} a c r (first ∷ rest)
+line_failed {U} {F} {a} {c} {e} {r} {line} {first} {rest} h is failed =
+    let P : CertLine → Type 0 = λ l. Writes {T = U} {E = F} a c r (l ∷ rest) in
+    subst P is (stops_before a c e r (line ∷ []) rest failed h)
 
 -- a line was written, and what stands behind it after it
-pub line_then : {T U E F : Type 0} {a b c : Option (List ℕ)} {before mid now : ℕ} {x : T} {r : Result U F} {line first : CertLine} {more rest : List CertLine} →
-    Writes {T = T} {E = E} a b before mid (Ok x) (line ∷ []) → line ≡ first → Writes {T = U} {E = F} b c mid now r more → more ≡ rest →
-    Writes {T = U} {E = F} a c before now r (first ∷ rest)
-line_then {U} {F} {a} {b} {c} {before} {mid} {now} {x} {r} {line} {first} {more} {rest} h is k same =
-    let P : List CertLine → Type 0 = Writes {T = U} {E = F} a c before now r in
-    subst P (ap (λ l. l ∷ more) is ∙ ap (λ t. first ∷ t) same) (then_writes a b c before mid now r (line ∷ []) more (wrote a b before mid x (line ∷ []) h) k)
+pub line_then : {T U E F : Type 0} {a b c : Output} {x : T} {r : Result U F} {line first : CertLine} {more rest : List CertLine} →
+    Writes {T = T} {E = E} a b (Ok x) (line ∷ []) → line ≡ first → Writes {T = U} {E = F} b c r more → more ≡ rest → Writes {T = U} {E = F} a c r (first ∷ rest)
+line_then {U} {F} {a} {b} {c} {x} {r} {line} {first} {more} {rest} h is k same =
+    let P : List CertLine → Type 0 = Writes {T = U} {E = F} a c r in
+    subst P (ap (λ l. l ∷ more) is ∙ ap (λ t. first ∷ t) same) (then_writes a b c r (line ∷ []) more (wrote a b x (line ∷ []) h) k)
 
 -- the numbers behind a line
 pub behind_line : (first : CertLine) {more rest : List CertLine} → IsTrue (list_all has_numbers (first ∷ rest)) → more ≡ rest → IsTrue (list_all has_numbers more)
@@ -124,39 +128,38 @@ behind_line first {more} {rest} h same =
     subst P (sym same) (both (has_numbers first) (list_all has_numbers rest) h).1
 
 -- lines weren't written whole, nor what stands behind them
-pub lines_failed : {T U E F : Type 0} {a c : Option (List ℕ)} {before now : ℕ} {e : E} {r : Result U F} {lines all : List CertLine} (rest : List CertLine) →
-    Writes {T = T} {E = E} a c before now (Err e) lines → IsErr r → lines ++ rest ≡ all → Writes {T = U} {E = F} a c before now r all
-lines_failed {U} {F} {a} {c} {before} {now} {e} {r} {lines} {all} rest h failed same =
-    let P : List CertLine → Type 0 = Writes {T = U} {E = F} a c before now r in
-    subst P same (stops_before a c before now e r lines rest failed h)
+pub lines_failed : {T U E F : Type 0} {a c : Output} {e : E} {r : Result U F} {lines all : List CertLine} (rest : List CertLine) →
+    Writes {T = T} {E = E} a c (Err e) lines → IsErr r → lines ++ rest ≡ all → Writes {T = U} {E = F} a c r all
+lines_failed {U} {F} {a} {c} {e} {r} {lines} {all} rest h failed same =
+    let P : List CertLine → Type 0 = Writes {T = U} {E = F} a c r in
+    subst P same (stops_before a c e r lines rest failed h)
 
 -- lines were written, and what stands behind them after them
-pub lines_then : {T U E F : Type 0} {a b c : Option (List ℕ)} {before mid now : ℕ} {x : T} {r : Result U F} {lines more all : List CertLine} →
-    Writes {T = T} {E = E} a b before mid (Ok x) lines → Writes {T = U} {E = F} b c mid now r more → lines ++ more ≡ all →
-    Writes {T = U} {E = F} a c before now r all
-lines_then {U} {F} {a} {b} {c} {before} {mid} {now} {x} {r} {lines} {more} {all} h k same =
-    let P : List CertLine → Type 0 = Writes {T = U} {E = F} a c before now r in
-    subst P same (then_writes a b c before mid now r lines more (wrote a b before mid x lines h) k)
+pub lines_then : {T U E F : Type 0} {a b c : Output} {x : T} {r : Result U F} {lines more all : List CertLine} →
+    Writes {T = T} {E = E} a b (Ok x) lines → Writes {T = U} {E = F} b c r more → lines ++ more ≡ all → Writes {T = U} {E = F} a c r all
+lines_then {U} {F} {a} {b} {c} {x} {r} {lines} {more} {all} h k same =
+    let P : List CertLine → Type 0 = Writes {T = U} {E = F} a c r in
+    subst P same (then_writes a b c r lines more (wrote a b x lines h) k)
 
 -- with further lines written, all of them were
-pub now_wrote : {T E : Type 0} {a b c : Option (List ℕ)} {before mid now : ℕ} {x : T} {done more all : List CertLine} →
-    Wrote a b before mid done → Writes {T = T} {E = E} b c mid now (Ok x) more → done ++ more ≡ all → Wrote a c before now all
-now_wrote {T} {E} {a} {b} {c} {before} {mid} {now} {x} {done} {more} {all} h k same =
-    let P : List CertLine → Type 0 = Wrote a c before now in
-    subst P same (wrote a c before now x (done ++ more) (then_writes {T = T} {E = E} a b c before mid now (Ok x) done more h k))
+pub now_wrote : {T E : Type 0} {a b c : Output} {x : T} {done more all : List CertLine} →
+    Wrote a b done → Writes {T = T} {E = E} b c (Ok x) more → done ++ more ≡ all → Wrote a c all
+now_wrote {T} {E} {a} {b} {c} {x} {done} {more} {all} h k same =
+    let P : List CertLine → Type 0 = Wrote a c in
+    subst P same (wrote a c x (done ++ more) (then_writes {T = T} {E = E} a b c (Ok x) done more h k))
 
 -- further lines weren't written whole, nor what stands behind them
-pub now_failed : {T U E F : Type 0} {a b c : Option (List ℕ)} {before mid now : ℕ} {e : E} {r : Result U F} {done more all : List CertLine} (rest : List CertLine) →
-    Wrote a b before mid done → Writes {T = T} {E = E} b c mid now (Err e) more → IsErr r → (done ++ more) ++ rest ≡ all → Writes {T = U} {E = F} a c before now r all
-now_failed {T} {U} {E} {F} {a} {b} {c} {before} {mid} {now} {e} {r} {done} {more} {all} rest h k failed same =
-    lines_failed rest (then_writes {T = T} {E = E} a b c before mid now (Err e) done more h k) failed same
+pub now_failed : {T U E F : Type 0} {a b c : Output} {e : E} {r : Result U F} {done more all : List CertLine} (rest : List CertLine) →
+    Wrote a b done → Writes {T = T} {E = E} b c (Err e) more → IsErr r → (done ++ more) ++ rest ≡ all → Writes {T = U} {E = F} a c r all
+now_failed {T} {U} {E} {F} {a} {b} {c} {e} {r} {done} {more} {all} rest h k failed same =
+    lines_failed rest (then_writes {T = T} {E = E} a b c (Err e) done more h k) failed same
 
 -- lines that are all were written
-pub wrote_all : {T E : Type 0} {a b : Option (List ℕ)} {before now : ℕ} {x : T} {done all : List CertLine} →
-    Wrote a b before now done → done ≡ all → Writes {T = T} {E = E} a b before now (Ok x) all
-wrote_all {T} {E} {a} {b} {before} {now} {x} {done} {all} h same =
-    let P : List CertLine → Type 0 = Wrote a b before now in
-    writes a b before now x all (subst P same h)
+pub wrote_all : {T E : Type 0} {a b : Output} {x : T} {done all : List CertLine} →
+    Wrote a b done → done ≡ all → Writes {T = T} {E = E} a b (Ok x) all
+wrote_all {T} {E} {a} {b} {x} {done} {all} h same =
+    let P : List CertLine → Type 0 = Wrote a b in
+    writes a b x all (subst P same h)
 
 -- lines of one line each
 pub each_one : {X : Type 0} (f : X → CertLine) (xs ys : List X) → xs ≡ ys → flat_map (λ x. f x ∷ []) xs ≡ map f ys
@@ -168,3 +171,15 @@ pub between_lines : (front middle behind : List CertLine) {more : List CertLine}
 between_lines front middle behind {more} h same =
     let P : List CertLine → Type 0 = λ t. IsTrue (list_all has_numbers t) in
     subst P (sym same) (numbers_front middle behind (numbers_rest front (middle ++ behind) h))
+
+-- what a text that was taken and the piece that goes out behind it append
+pub flushed_prefix : {T E : Type 0} (a b : Output) (v : Option (List ℕ)) (text : List ℕ) (r : Result T E) → a.pending ≡ [] → Took a b text
+    → OnOk r (Appends b.written v b.pending) → OnErr r (AppendsPrefix b.written v b.pending) → AppendsPrefix a.written v text
+flushed_prefix {T} {E} a b v text r empty h ok err =
+    let P : List ℕ → Type 0 = AppendsPrefix a.written v in
+    let is : text ≡ h.out ++ b.pending = ap (λ t. t ++ text) (sym empty) ∙ h.whole in
+    subst P (sym is) (prefix_more a.written b.written v h.out b.pending h.appended (part r ok err))
+  where
+    part : (r : Result T E) → OnOk r (Appends b.written v b.pending) → OnErr r (AppendsPrefix b.written v b.pending) → AppendsPrefix b.written v b.pending
+    part (Ok x) ok err = prefix_whole b.written v b.pending ok
+    part (Err e) ok err = err

@@ -6,8 +6,8 @@ use Rattle.std.specs.Option.{option_or}
 use Rattle.std.proofs.lemmas.List.Splits.{length-slice_split, slice_split_none, join_with_byte-slice_split}
 use borrow.Author.Tests.{ne_eqb}
 use Rattle.decision_model.specs.declared.instance.Instance.{Instance}
-use Rattle.value_cert.specs.Breaches.{Breach, broken_rule, breach_behind, breach_or, has_ended, end_breach, pieces_breach, lines_breach, lines_breach_from, text_breach}
-use Rattle.value_cert.specs.Grammar.{has_numbers, place_after}
+use Rattle.value_cert.specs.Breaches.{Breach, broken_rule, breach_behind, breach_or, end_breach, pieces_breach, lines_breach, lines_breach_from, text_breach}
+use Rattle.value_cert.specs.Grammar.{has_ended, has_numbers, place_after}
 use Rattle.value_cert.specs.GrammarFacts.{lines_have_numbers}
 use Rattle.value_cert.specs.LineWords.{IsWithout}
 use Rattle.value_cert.specs.Lines.{line_words, line_text}
@@ -73,7 +73,7 @@ breach_or-option_or before None a b = refl
 breach_or-option_or before (Some rule) a b = refl
 
 -- the first breach of a text that begins with these lines is that of the lines, or else one behind them
-lines_then_pieces : (item : Instance) (before lines : List CertLine) (rest : List ℕ) → list_all has_numbers lines ≡ true
+pub lines_then_pieces : (item : Instance) (before lines : List CertLine) (rest : List ℕ) → list_all has_numbers lines ≡ true
     → pieces_breach item before (slice_split (λ byte. byte == 10) (lines_text lines ++ rest))
     ≡ option_or (lines_breach_from item before lines) (pieces_breach item (before ++ lines) (slice_split (λ byte. byte == 10) rest))
 lines_then_pieces item before [] rest numbers =

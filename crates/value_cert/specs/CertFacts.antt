@@ -1,330 +1,153 @@
--- Each certificate has lines of its own, and each whole list of lines is a certificate's.
-use Rattle.std.proofs.Common.{◌≡◌, ℕ, List, [], ◌∷◌, ◌++◌, length, map, Bool, true, false, ◌&&◌, cond, ℤ, pos, negsuc, Some, None, refl, ap, ◌∙◌, sym, subst, arith, append_assoc}
-use Rattle.std.specs.Prelude.{int_le, unsigned_abs}
+-- Lines are those of a certificate exactly where the places behind them lead to an end, and of one certificate alone.
+use Rattle.std.proofs.Common.{◌≡◌, List, [], ◌∷◌, ◌++◌, Bool, true, false, cond, ℤ, pos, Some, None, IsSome, IsTrue, refl, ap, ◌∙◌, sym, subst}
 use Rattle.std.specs.declared.option.Option.{Option}
-use Rattle.std.specs.List.{flat_map}
-use Rattle.std.proofs.lemmas.Bool.{leb-true, false≢true}
-use Rattle.std.proofs.lemmas.List.{append-nil}
+use Rattle.std.specs.List.{list_all}
+use Rattle.std.proofs.lemmas.Bool.{false≢true}
+use Rattle.std.proofs.lemmas.Option.{cond_some}
+use Rattle.decision_model.specs.declared.kinds.Kind.{Kind}
 use Rattle.decision_model.specs.declared.kinds.Kind.TheVariants as kind
-use Rattle.value_cert.specs.CertOfLines.{LotLines, lot_lines_in, FiniteLines, finite_lines_in, points_in, SerialLines, serial_lines_in, news_in, average_in, cert_of_lines}
-use Rattle.value_cert.specs.Grammar.{has_numbers, place_from, IsWhole, takes_discount}
-use Rattle.value_cert.specs.NumberFacts.{both}
-use Rattle.value_cert.specs.Numbers.{is_natural, is_whole, is_discount, is_one, is_number}
-use Rattle.value_cert.specs.TextFacts.{nowhere, texts_apart}
-use Rattle.value_cert.specs.Texts.{order_lines, value_line, row_lines, point_line, part_line, echelon_lines, period_lines, news_lines, average_lines, cert_lines, cert_text, HasDuals, HasText}
-use Rattle.value_cert.specs.declared.certificates.FiniteRow.{FiniteRow}
-use Rattle.value_cert.specs.declared.certificates.SerialRow.{SerialRow}
-use Rattle.value_cert.specs.declared.certificates.SerialPeriod.{SerialPeriod}
-use Rattle.value_cert.specs.declared.certificates.Cert.{Cert}
-use Rattle.value_cert.specs.declared.certificates.Cert.TheVariants as cert
-use Rattle.value_cert.specs.declared.lists.FiniteCell.{FiniteCell}
-use Rattle.value_cert.specs.declared.lists.AverageCell.{AverageCell}
-use Rattle.value_cert.specs.declared.lists.SerialCell.{SerialCell}
+use Rattle.value_cert.specs.AverageFacts.{average_in, average_is_told, average_facts}
+use Rattle.value_cert.specs.FiniteFacts.{finite_in, finite_is_told, finite_facts}
+use Rattle.value_cert.specs.Grammar.{takes_discount, has_numbers, next_place, step_of, place_from, place_after, has_ended}
+use Rattle.value_cert.specs.GrammarFacts.{place_from-append, lines_have_numbers, ended_at, stepped, nowhere, walk_is}
+use Rattle.value_cert.specs.KindFacts.{HasRest, KindFacts, IsTold}
+use Rattle.value_cert.specs.Kinds.{contents_of, table_of}
+use Rattle.value_cert.specs.LotFacts.{lots_in, lots_is_told, lot_facts}
+use Rattle.value_cert.specs.NewsFacts.{news_in, news_is_told, news_facts}
+use Rattle.value_cert.specs.SerialFacts.{serial_in, serial_is_told, serial_facts}
+use Rattle.value_cert.specs.Tags.{tag_of}
+use Rattle.value_cert.specs.Texts.{cert_lines, IsComplete, HasText, IsWhole, IsFront}
+use Rattle.value_cert.specs.declared.cert.Cert.{Cert}
+use Rattle.value_cert.specs.declared.cert.Cert.TheVariants as cert
 use Rattle.value_cert.specs.declared.line.CertLine.{CertLine}
 use Rattle.value_cert.specs.declared.line.CertLine.TheVariants as line
+use Rattle.value_cert.specs.declared.line.Tag.TheVariants as tag
 use Rattle.value_cert.specs.declared.place.Place.{Place}
 use Rattle.value_cert.specs.declared.place.Place.TheVariants as place
 
--- ---- The lines of a certificate tell it.
+-- ---- The kinds.
 
-lots_told : (orders duals : List ℕ) (cost : ℕ) → length duals ≡ length orders
-    → lot_lines_in (order_lines orders duals ++ line.Cost (pos cost) ∷ [] ++ line.End ∷ []) ≡ record { orders = orders; duals = duals; cost = cost }
-lots_told [] [] cost each = refl
-lots_told [] (dual ∷ duals) cost each = absurd (omega (arith, each))
-lots_told (order ∷ orders) [] cost each = absurd (omega (arith, each))
-lots_told (order ∷ orders) (dual ∷ duals) cost each =
-    let put : LotLines → LotLines = λ told. record { orders = order ∷ told.orders; duals = dual ∷ told.duals; cost = told.cost } in
-    ap put (lots_told orders duals cost (omega (arith, each)))
+-- the certificate that lines behind a head tell, and what is proved of the kind
+abbrev kind_facts : (which : Kind) → (cert_in : ℤ → ℤ → List CertLine → Cert) × KindFacts which cert_in
+kind_facts kind.News = (news_in, news_facts)
+kind_facts kind.Lots = (lots_in, lot_facts)
+kind_facts kind.Finite = (finite_in, finite_facts)
+kind_facts kind.Average = (average_in, average_facts)
+kind_facts kind.Serial = (serial_in, serial_facts)
+kind_facts kind.Network = (
+  news_in,
+  record {
+    discount = λ num den h. absurd (false≢true h);
+    plain = λ num den h. h;
+    last = λ next. refl;
+    first = λ num den h. absurd (false≢true h);
+    further = λ last next h. absurd (false≢true h);
+    tells = λ num den lines fits h. absurd (false≢true fits);
+  },
+)
 
-finite_cells_told : (cells : List FiniteCell) (lines : List CertLine)
-    → finite_lines_in (map value_line cells ++ lines) ≡ record { cells = cells ++ (finite_lines_in lines).cells; rows = (finite_lines_in lines).rows }
-finite_cells_told [] lines = refl
-finite_cells_told (cell ∷ cells) lines =
-    let put : FiniteLines → FiniteLines = λ told. record { cells = cell ∷ told.cells; rows = told.rows } in
-    ap put (finite_cells_told cells lines)
+abbrev cert_in : Kind → ℤ → ℤ → List CertLine → Cert
+cert_in which = (kind_facts which).0
 
-finite_told : (rows : List FiniteRow) → finite_lines_in (flat_map row_lines rows ++ line.End ∷ []) ≡ record { cells = []; rows = rows }
-finite_told [] = refl
-finite_told (row ∷ rows) =
-    let behind = flat_map row_lines rows ++ line.End ∷ [] in
-    let join : FiniteLines → FiniteLines = λ told. record { cells = row.cells ++ told.cells; rows = told.rows } in
-    let told = ap finite_lines_in (append_assoc (map value_line row.cells) (flat_map row_lines rows) (line.End ∷ []))
-    ∙ finite_cells_told row.cells behind ∙ ap join (finite_told rows) in
-    let bare : List FiniteCell → FiniteLines = λ cells. record { cells = cells; rows = rows } in
-    let put : FiniteLines → FiniteLines = λ told. record { cells = []; rows = record { period = row.period; cells = told.cells } ∷ told.rows } in
-    ap put (told ∙ ap bare (append-nil row.cells))
+pub facts_of : (which : Kind) → KindFacts which (cert_in which)
+facts_of which = (kind_facts which).1
 
-points_told : (cells : List AverageCell) → points_in (map point_line cells ++ line.End ∷ []) ≡ cells
-points_told [] = refl
-points_told (cell ∷ cells) = ap (λ t. cell ∷ t) (points_told cells)
+told : (c : Cert) → IsTold c (cert_in (contents_of c).kind)
+told (cert.News c) = news_is_told c
+told (cert.Lots c) = lots_is_told c
+told (cert.Finite c) = finite_is_told c
+told (cert.Average c) = average_is_told c
+told (cert.Serial c) = serial_is_told c
 
-serial_cells_told : (cells : List SerialCell) (lines : List CertLine)
-    → serial_lines_in (map part_line cells ++ lines)
-    ≡ record { cells = cells ++ (serial_lines_in lines).cells; rows = (serial_lines_in lines).rows; periods = (serial_lines_in lines).periods }
-serial_cells_told [] lines = refl
-serial_cells_told (cell ∷ cells) lines =
-    let put : SerialLines → SerialLines = λ told. record { cells = cell ∷ told.cells; rows = told.rows; periods = told.periods } in
-    ap put (serial_cells_told cells lines)
+abbrev cert_of_lines : List CertLine → Cert
+cert_of_lines (line.Head which num den ∷ lines) = cert_in which num den lines
+cert_of_lines lines = news_in (pos 1) (pos 1) lines
 
-serial_rows_told : (rows : List SerialRow) (lines : List CertLine) (periods : List SerialPeriod)
-    → serial_lines_in lines ≡ record { cells = []; rows = []; periods = periods }
-    → serial_lines_in (flat_map echelon_lines rows ++ lines) ≡ record { cells = []; rows = rows; periods = periods }
-serial_rows_told [] lines periods h = h
-serial_rows_told (row ∷ rows) lines periods h =
-    let behind = flat_map echelon_lines rows ++ lines in
-    let join : SerialLines → SerialLines = λ told. record { cells = row.cells ++ told.cells; rows = told.rows; periods = told.periods } in
-    let told = ap serial_lines_in (append_assoc (map part_line row.cells) (flat_map echelon_lines rows) lines)
-    ∙ serial_cells_told row.cells behind ∙ ap join (serial_rows_told rows lines periods h) in
-    let bare : List SerialCell → SerialLines = λ cells. record { cells = cells; rows = rows; periods = periods } in
-    let put : SerialLines → SerialLines = λ told.
-    record { cells = []; rows = record { echelon = row.echelon; level = row.level; cells = told.cells } ∷ told.rows; periods = told.periods } in
-    ap put (told ∙ ap bare (append-nil row.cells))
+cert_is : (c : Cert) → IsComplete c → cert_of_lines (cert_lines c) ≡ c
+cert_is c complete = (told c).is complete
 
-serial_told : (periods : List SerialPeriod) → serial_lines_in (flat_map period_lines periods ++ line.End ∷ []) ≡ record { cells = []; rows = []; periods = periods }
-serial_told [] = refl
-serial_told (period ∷ periods) =
-    let behind = flat_map period_lines periods ++ line.End ∷ [] in
-    let told = ap serial_lines_in (append_assoc (flat_map echelon_lines period.rows) (flat_map period_lines periods) (line.End ∷ []))
-    ∙ serial_rows_told period.rows behind periods (serial_told periods) in
-    let put : SerialLines → SerialLines = λ told.
-    record { cells = []; rows = []; periods = record { period = period.period; rows = told.rows } ∷ told.periods } in
-    ap put told
-
-pub cert_told : (c : Cert) → HasDuals c → cert_of_lines (cert_lines c) ≡ c
-cert_told (cert.News c) duals = refl
-cert_told (cert.Lots c) duals =
-    let put : LotLines → Cert = λ told. cert.Lots (record { orders = told.orders; duals = told.duals; cost = told.cost }) in
-    ap put (lots_told c.orders c.duals c.cost duals)
-cert_told (cert.Finite c) duals =
-    let put : FiniteLines → Cert = λ told. cert.Finite (record { discount_num = c.discount_num; discount_den = c.discount_den; rows = told.rows }) in
-    ap put (finite_told c.rows)
-cert_told (cert.Average c) duals =
-    let put : List AverageCell → Cert = λ cells. cert.Average (record { num = c.num; den = c.den; low = c.low; high = c.high; cells = cells }) in
-    ap put (points_told c.cells)
-cert_told (cert.Serial c) duals =
-    let put : SerialLines → Cert = λ told. cert.Serial (record { discount_num = c.discount_num; discount_den = c.discount_den; periods = told.periods }) in
-    ap put (serial_told c.periods)
+-- ---- Whole lists of lines.
 
 -- of two certificates of the same lines, each is the other
 pub same_cert : (a b : Cert) → HasText a → HasText b → cert_lines a ≡ cert_lines b → a ≡ b
-same_cert a b ha hb same = sym (cert_told a ha.duals) ∙ ap cert_of_lines same ∙ cert_told b hb.duals
+same_cert a b ha hb same = sym (cert_is a ha.complete) ∙ ap cert_of_lines same ∙ cert_is b hb.complete
 
--- ---- Whole lines are those of the certificate that they tell.
+-- behind a certificate's lines it has ended
+pub whole_ends : (lines : List CertLine) → IsWhole lines → has_ended (place_after lines) ≡ true
+whole_ends lines whole =
+    let c = whole.0 in
+    let P : List CertLine → Type 0 = λ t. has_ended (place_after t) ≡ true in
+    subst P whole.2 (ap has_ended (walk_is (Some place.Start) (cert_lines c) whole.1.numbers) ∙ (told c).ends whole.1.complete)
 
--- what a step means for the lines behind it
-stepped : (numbers : Bool) (next : Option Place) (lines : List CertLine) (at : Place) → place_from (cond numbers next None) lines ≡ Some at
-    → (numbers ≡ true) × (place_from next lines ≡ Some at)
-stepped true next lines at h = (refl, h)
-stepped false next lines at h = cc
+-- each line of a certificate has numbers that may stand there
+pub whole_has_numbers : (lines : List CertLine) → IsWhole lines → IsTrue (list_all has_numbers lines)
+whole_has_numbers lines whole =
+    let P : List CertLine → Type 0 = λ t. IsTrue (list_all has_numbers t) in
+    subst P whole.2 whole.1.numbers
 
--- a natural number is one of ℕ
-natural_is : (z : ℤ) → is_natural z ≡ true → pos (unsigned_abs z) ≡ z
-natural_is (pos n) h = refl
-natural_is (negsuc n) h = cc
+-- lines behind which a certificate has ended are its lines
+pub ended_is_whole : (lines : List CertLine) → has_ended (place_after lines) ≡ true → IsWhole lines
+ended_is_whole [] h = absurd (false≢true h)
+ended_is_whole (line.Head which num den ∷ lines) h =
+    let step = stepped (takes_discount which num den) (Some (place.Behind which tag.Head)) lines h in
+    let tells = (facts_of which).tells num den lines step.0 step.1 in
+    let all = line.Head which num den ∷ lines in
+    let at = ended_at (place_after all) h in
+    let P : List CertLine → Type 0 = λ t. IsTrue (list_all has_numbers t) in
+    (cert_in which num den lines, record { numbers = subst P (sym tells.is) (lines_have_numbers (Some place.Start) all at.0 at.1); complete = tells.complete }, tells.is)
+ended_is_whole (x ∷ xs) h = nowhere (has_numbers x) xs h
 
--- behind the end stands nothing, and at the end the end
-at_ended : (lines : List CertLine) → place_from (Some place.Ended) lines ≡ Some place.Ended → lines ≡ []
-at_ended [] h = refl
-at_ended (x ∷ xs) h = nowhere (has_numbers x) xs place.Ended h
+-- ---- Fronts.
 
-at_end : (lines : List CertLine) → place_from (Some place.End) lines ≡ Some place.Ended → lines ≡ line.End ∷ []
-at_end [] h = cc
-at_end (line.End ∷ xs) h = ap (λ t. line.End ∷ t) (at_ended xs h)
-at_end (x ∷ xs) h = nowhere (has_numbers x) xs place.Ended h
+-- a line with numbers that may stand there
+numbered : (numbers : Bool) (x : Option Place) (next : Place) → cond numbers x None ≡ Some next → (numbers ≡ true) × (x ≡ Some next)
+numbered true x next h = (refl, h)
+numbered false x next h = cc
 
-record TellLots (lines : List CertLine) : Type 0 where
-  each : length (lot_lines_in lines).duals ≡ length (lot_lines_in lines).orders
-  is : order_lines (lot_lines_in lines).orders (lot_lines_in lines).duals ++ line.Cost (pos (lot_lines_in lines).cost) ∷ [] ++ line.End ∷ [] ≡ lines
+-- from the place behind a line that may stand there a certificate goes on to its end
+step_has_rest : (at : Place) (x : CertLine) (next : Place) → step_of at x ≡ Some next → HasRest next
+step_has_rest place.Start (line.Head which num den) next h =
+    let step = numbered (takes_discount which num den) (Some (place.Behind which tag.Head)) next h in
+    let here : place.Behind which tag.Head ≡ next = cc (step.1) in
+    let P : Place → Type 0 = HasRest in
+    subst P here ((facts_of which).first num den step.0)
+step_has_rest place.Start x next h = let never = (numbered (has_numbers x) None next h).1 in cc
+step_has_rest (place.Behind which last) x next h =
+    let step = numbered (has_numbers x) (next_place (place.Behind which last) x) next h in
+    let test = cond_some ((table_of which).follows last (tag_of x)) (place.Behind which (tag_of x)) next step.1 in
+    let P : Place → Type 0 = HasRest in
+    subst P test.1 ((facts_of which).further last (tag_of x) test.0)
 
-lots_back : (lines : List CertLine) → place_from (Some place.NextOrder) lines ≡ Some place.Ended → TellLots lines
-lots_back [] h = cc
-lots_back (line.Order order dual ∷ lines) h =
-    let step = stepped (is_natural order && is_natural dual) (Some place.NextOrder) lines place.Ended h in
-    let numbers = both (is_natural order) (is_natural dual) step.0 in
-    let rest = lots_back lines step.1 in
-    record { each = omega (arith, rest.each); is = cc (natural_is order numbers.0, natural_is dual numbers.1, rest.is) }
-lots_back (line.Cost cost ∷ lines) h =
-    let step = stepped (is_natural cost) (Some place.End) lines place.Ended h in
-    record { each = refl; is = cc (natural_is cost step.0, at_end lines step.1) }
-lots_back (x ∷ xs) h = nowhere (has_numbers x) xs place.Ended h
+step_exists : (x : Option Place) (lines : List CertLine) (at : Place) → place_from x lines ≡ Some at → (next : Place) × (x ≡ Some next)
+step_exists None lines at h = cc
+step_exists (Some next) lines at h = (next, refl)
 
--- a first order may stand where another one may
-first_order : (lines : List CertLine) → place_from (Some place.FirstOrder) lines ≡ Some place.Ended → place_from (Some place.NextOrder) lines ≡ Some place.Ended
-first_order [] h = cc
-first_order (line.Order order dual ∷ lines) h = h
-first_order (x ∷ xs) h = nowhere (has_numbers x) xs place.Ended h
+-- and so does it from each place behind lines that may stand so
+rest_behind : (from : Place) → HasRest from → (lines : List CertLine) (at : Place) → place_from (Some from) lines ≡ Some at → HasRest at
+rest_behind from rest [] at h =
+    let here : from ≡ at = cc in
+    let P : Place → Type 0 = HasRest in
+    subst P here rest
+rest_behind from rest (x ∷ xs) at h =
+    let next = step_exists (step_of from x) xs at h in
+    let P : Option Place → Type 0 = λ o. place_from o xs ≡ Some at in
+    rest_behind next.0 (step_has_rest from x next.0 next.1) xs at (subst P next.1 h)
 
--- a first value may stand where another one may
-first_value : (lines : List CertLine) → place_from (Some place.FirstValue) lines ≡ Some place.Ended → place_from (Some place.NextValue) lines ≡ Some place.Ended
-first_value [] h = cc
-first_value (line.Value at to value ∷ lines) h = h
-first_value (x ∷ xs) h = nowhere (has_numbers x) xs place.Ended h
+start_has_rest : HasRest place.Start
+start_has_rest = record { rest = line.Head kind.News (pos 1) (pos 1) ∷ line.Level (pos 0) ∷ line.Cost (pos 0) ∷ line.End ∷ []; ends = refl }
 
-finite_back : (lines : List CertLine) → place_from (Some place.NextValue) lines ≡ Some place.Ended
-    → map value_line (finite_lines_in lines).cells ++ (flat_map row_lines (finite_lines_in lines).rows ++ line.End ∷ []) ≡ lines
-finite_back [] h = cc
-finite_back (line.Value at to value ∷ lines) h =
-    let step = stepped (has_numbers (line.Value at to value)) (Some place.NextValue) lines place.Ended h in
-    ap (λ t. line.Value at to value ∷ t) (finite_back lines step.1)
-finite_back (line.Period period ∷ lines) h =
-    let step = stepped (is_natural period) (Some place.FirstValue) lines place.Ended h in
-    let told = finite_lines_in lines in
-    let rest = append_assoc (map value_line told.cells) (flat_map row_lines told.rows) (line.End ∷ []) ∙ finite_back lines (first_value lines step.1) in
-    ap (λ t. line.Period (pos (unsigned_abs period)) ∷ t) rest ∙ ap (λ p. line.Period p ∷ lines) (natural_is period step.0)
-finite_back (line.End ∷ lines) h = ap (λ t. line.End ∷ t) (sym (at_ended lines h))
-finite_back (x ∷ xs) h = nowhere (has_numbers x) xs place.Ended h
+-- lines behind which there is a place can be carried on to a whole certificate
+pub front_from_place : (lines : List CertLine) (at : Place) → place_after lines ≡ Some at → IsFront lines
+front_from_place lines at h =
+    let onward = rest_behind place.Start start_has_rest lines at h in
+    let joined = place_from-append (Some place.Start) lines onward.rest ∙ ap (λ from. place_from from onward.rest) h in
+    (onward.rest, ended_is_whole (lines ++ onward.rest) (ap has_ended joined ∙ onward.ends))
 
-finite_start : (lines : List CertLine) → place_from (Some place.FinitePeriod) lines ≡ Some place.Ended
-    → flat_map row_lines (finite_lines_in lines).rows ++ line.End ∷ [] ≡ lines
-finite_start [] h = cc
-finite_start (line.Period period ∷ lines) h = finite_back (line.Period period ∷ lines) h
-finite_start (x ∷ xs) h = nowhere (has_numbers x) xs place.Ended h
-
--- a first point may stand where another one may
-first_point : (lines : List CertLine) → place_from (Some place.FirstPoint) lines ≡ Some place.Ended → place_from (Some place.NextPoint) lines ≡ Some place.Ended
-first_point [] h = cc
-first_point (line.Point at lower upper ∷ lines) h = h
-first_point (x ∷ xs) h = nowhere (has_numbers x) xs place.Ended h
-
-points_back : (lines : List CertLine) → place_from (Some place.NextPoint) lines ≡ Some place.Ended → map point_line (points_in lines) ++ line.End ∷ [] ≡ lines
-points_back [] h = cc
-points_back (line.Point at lower upper ∷ lines) h =
-    let step = stepped (has_numbers (line.Point at lower upper)) (Some place.NextPoint) lines place.Ended h in
-    let numbers = both (is_whole at && is_natural lower) (is_natural upper) step.0 in
-    let low = (both (is_whole at) (is_natural lower) numbers.0).1 in
-    cc (natural_is lower low, natural_is upper numbers.1, points_back lines step.1)
-points_back (line.End ∷ lines) h = ap (λ t. line.End ∷ t) (sym (at_ended lines h))
-points_back (x ∷ xs) h = nowhere (has_numbers x) xs place.Ended h
-
--- from a place to the end there is a line, but at the end
-some_line : {A : Type 0} (numbers : Bool) (at : Place) → (Some at ≡ Some place.Ended → A) → place_from (cond numbers (Some at) None) [] ≡ Some place.Ended → A
-some_line true at never h = never h
-some_line false at never h = cc
-
-average_back : (lines : List CertLine) → place_from (Some place.Gain) lines ≡ Some place.Ended → average_lines (average_in lines) ++ line.End ∷ [] ≡ lines
-average_back [] h = cc
-average_back (line.Gain num den ∷ []) h = some_line (has_numbers (line.Gain num den)) place.Pair (λ e. cc) h
-average_back (line.Gain num den ∷ line.Pair low high ∷ lines) h =
-    let step = stepped (has_numbers (line.Gain num den)) (Some place.Pair) (line.Pair low high ∷ lines) place.Ended h in
-    let next = stepped (has_numbers (line.Pair low high)) (Some place.FirstPoint) lines place.Ended step.1 in
-    let numbers = both (is_natural num) (is_natural den) step.0 in
-    cc (natural_is num numbers.0, natural_is den numbers.1, points_back lines (first_point lines next.1))
-average_back (line.Gain num den ∷ x ∷ xs) h =
-    nowhere (has_numbers x) xs place.Ended (stepped (has_numbers (line.Gain num den)) (Some place.Pair) (x ∷ xs) place.Ended h).1
-average_back (x ∷ xs) h = nowhere (has_numbers x) xs place.Ended h
-
-news_back : (lines : List CertLine) → place_from (Some place.Level) lines ≡ Some place.Ended → news_lines (news_in lines) ++ line.End ∷ [] ≡ lines
-news_back [] h = cc
-news_back (line.Level level ∷ []) h = some_line (is_natural level) place.Cost (λ e. cc) h
-news_back (line.Level level ∷ line.Cost cost ∷ lines) h =
-    let step = stepped (is_natural level) (Some place.Cost) (line.Cost cost ∷ lines) place.Ended h in
-    let next = stepped (is_natural cost) (Some place.End) lines place.Ended step.1 in
-    cc (natural_is level step.0, natural_is cost next.0, at_end lines next.1)
-news_back (line.Level level ∷ x ∷ xs) h =
-    nowhere (has_numbers x) xs place.Ended (stepped (is_natural level) (Some place.Cost) (x ∷ xs) place.Ended h).1
-news_back (x ∷ xs) h = nowhere (has_numbers x) xs place.Ended h
-
--- a first part may stand where another one may
-first_part : (lines : List CertLine) → place_from (Some place.FirstPart) lines ≡ Some place.Ended → place_from (Some place.NextPart) lines ≡ Some place.Ended
-first_part [] h = cc
-first_part (line.Part at value ∷ lines) h = h
-first_part (x ∷ xs) h = nowhere (has_numbers x) xs place.Ended h
-
--- an echelon may stand where another part may, and no part stands before it
-record BeginsEchelon (lines : List CertLine) : Type 0 where
-  next : place_from (Some place.NextPart) lines ≡ Some place.Ended
-  bare : (serial_lines_in lines).cells ≡ []
-
-first_echelon : (lines : List CertLine) → place_from (Some place.Echelon) lines ≡ Some place.Ended → BeginsEchelon lines
-first_echelon [] h = cc
-first_echelon (line.Echelon echelon level ∷ lines) h = record { next = h; bare = refl }
-first_echelon (x ∷ xs) h = nowhere (has_numbers x) xs place.Ended h
-
-serial_back : (lines : List CertLine) → place_from (Some place.NextPart) lines ≡ Some place.Ended
-    → map part_line (serial_lines_in lines).cells
-    ++ (flat_map echelon_lines (serial_lines_in lines).rows ++ (flat_map period_lines (serial_lines_in lines).periods ++ line.End ∷ [])) ≡ lines
-serial_back [] h = cc
-serial_back (line.Part at value ∷ lines) h =
-    let step = stepped (has_numbers (line.Part at value)) (Some place.NextPart) lines place.Ended h in
-    ap (λ t. line.Part at value ∷ t) (serial_back lines step.1)
-serial_back (line.Echelon echelon level ∷ lines) h =
-    let step = stepped (has_numbers (line.Echelon echelon level)) (Some place.FirstPart) lines place.Ended h in
-    let told = serial_lines_in lines in
-    let numbers = both (is_natural echelon) (is_whole level) step.0 in
-    let rest = append_assoc (map part_line told.cells) (flat_map echelon_lines told.rows) (flat_map period_lines told.periods ++ line.End ∷ [])
-    ∙ serial_back lines (first_part lines step.1) in
-    ap (λ t. line.Echelon (pos (unsigned_abs echelon)) level ∷ t) rest ∙ ap (λ e. line.Echelon e level ∷ lines) (natural_is echelon numbers.0)
-serial_back (line.Period period ∷ lines) h =
-    let step = stepped (is_natural period) (Some place.Echelon) lines place.Ended h in
-    let told = serial_lines_in lines in
-    let begins = first_echelon lines step.1 in
-    let behind = flat_map period_lines told.periods ++ line.End ∷ [] in
-    let rest = append_assoc (flat_map echelon_lines told.rows) (flat_map period_lines told.periods) (line.End ∷ [])
-    ∙ ap (λ cells. map part_line cells ++ (flat_map echelon_lines told.rows ++ behind)) (sym begins.bare) ∙ serial_back lines begins.next in
-    ap (λ t. line.Period (pos (unsigned_abs period)) ∷ t) rest ∙ ap (λ p. line.Period p ∷ lines) (natural_is period step.0)
-serial_back (line.End ∷ lines) h = ap (λ t. line.End ∷ t) (sym (at_ended lines h))
-serial_back (x ∷ xs) h = nowhere (has_numbers x) xs place.Ended h
-
-serial_start : (lines : List CertLine) → place_from (Some place.SerialPeriod) lines ≡ Some place.Ended
-    → flat_map period_lines (serial_lines_in lines).periods ++ line.End ∷ [] ≡ lines
-serial_start [] h = cc
-serial_start (line.Period period ∷ lines) h = serial_back (line.Period period ∷ lines) h
-serial_start (x ∷ xs) h = nowhere (has_numbers x) xs place.Ended h
-
--- the numbers of a discount
-discount_is : (num den : ℤ) → is_discount num den ≡ true → (pos (unsigned_abs num) ≡ num) × (pos (unsigned_abs den) ≡ den)
-discount_is (pos num) (pos den) h = (refl, refl)
-discount_is (pos num) (negsuc den) h = absurd (false≢true (both (int_le (pos 1) (pos num)) false (both (int_le (pos 1) (pos num) && false) (int_le (negsuc den) (pos 1000)) h).0).1)
-discount_is (negsuc num) den h = cc
-
-number_one : (z : ℤ) → is_number (pos 1) z ≡ true → z ≡ pos 1
-number_one (pos n) h =
-    let tests = both (int_le (pos 1) (pos n)) (int_le (pos n) (pos 1)) h in
-    let low = leb-true 1 n tests.0 in
-    let high = leb-true n 1 tests.1 in
-    ap pos (omega arith)
-number_one (negsuc n) h = cc
-
--- lines tell a certificate of which they are the lines
-record Tell (lines : List CertLine) : Type 0 where
-  duals : HasDuals (cert_of_lines lines)
-  is : cert_lines (cert_of_lines lines) ≡ lines
-
-whole_told : (lines : List CertLine) → IsWhole lines → Tell lines
-whole_told [] h = cc
-whole_told (line.Head kind.News num den ∷ lines) h =
-    let step = stepped (takes_discount kind.News num den) (Some place.Level) lines place.Ended h in
-    let one = both (is_number (pos 1) num) (is_number (pos 1) den) (both (is_discount num den) (is_one num den) step.0).1 in
-    record { duals = tt; is = cc (number_one num one.0, number_one den one.1, news_back lines step.1) }
-whole_told (line.Head kind.Lots num den ∷ lines) h =
-    let step = stepped (takes_discount kind.Lots num den) (Some place.FirstOrder) lines place.Ended h in
-    let one = both (is_number (pos 1) num) (is_number (pos 1) den) (both (is_discount num den) (is_one num den) step.0).1 in
-    let rest = lots_back lines (first_order lines step.1) in
-    record { duals = rest.each; is = cc (number_one num one.0, number_one den one.1, rest.is) }
-whole_told (line.Head kind.Finite num den ∷ lines) h =
-    let step = stepped (takes_discount kind.Finite num den) (Some place.FinitePeriod) lines place.Ended h in
-    let numbers = discount_is num den step.0 in
-    record { duals = tt; is = cc (numbers.0, numbers.1, finite_start lines step.1) }
-whole_told (line.Head kind.Average num den ∷ lines) h =
-    let step = stepped (takes_discount kind.Average num den) (Some place.Gain) lines place.Ended h in
-    let one = both (is_number (pos 1) num) (is_number (pos 1) den) (both (is_discount num den) (is_one num den) step.0).1 in
-    record { duals = tt; is = cc (number_one num one.0, number_one den one.1, average_back lines step.1) }
-whole_told (line.Head kind.Serial num den ∷ lines) h =
-    let step = stepped (takes_discount kind.Serial num den) (Some place.SerialPeriod) lines place.Ended h in
-    let numbers = discount_is num den step.0 in
-    record { duals = tt; is = cc (numbers.0, numbers.1, serial_start lines step.1) }
-whole_told (line.Head kind.Network num den ∷ lines) h = cc
-whole_told (x ∷ xs) h = nowhere (has_numbers x) xs place.Ended h
-
--- each whole list of lines is a certificate's
-pub cert_from_whole : (lines : List CertLine) → IsWhole lines → (c : Cert) × HasText c × (cert_lines c ≡ lines)
-cert_from_whole lines whole =
-    let told = whole_told lines whole in
-    let P : List CertLine → Type 0 = IsWhole in
-    (cert_of_lines lines, record { whole = subst P (sym told.is) whole; duals = told.duals }, told.is)
-
--- no certificate's text is the front of another's
-pub certs_apart : (a b : Cert) (more : List ℕ) → HasText a → HasText b → cert_text a ++ more ≡ cert_text b → (a ≡ b) × (more ≡ [])
-certs_apart a b more ha hb same =
-    let apart = texts_apart (cert_lines a) (cert_lines b) more ha.whole hb.whole same in
-    (same_cert a b ha hb apart.0, apart.1)
+-- and behind the front of a certificate there is a place
+pub place_from_front : (lines : List CertLine) → IsFront lines → IsSome (place_after lines)
+place_from_front lines front =
+    place_was (place_after lines) front.0 (ap has_ended (sym (place_from-append (Some place.Start) lines front.0)) ∙ whole_ends (lines ++ front.0) front.1)
+  where
+    place_was : (x : Option Place) (more : List CertLine) → has_ended (place_from x more) ≡ true → IsSome x
+    place_was None more h = absurd (false≢true h)
+    place_was (Some at) more h = refl

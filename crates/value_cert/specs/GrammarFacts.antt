@@ -1,11 +1,15 @@
 -- Lines behind one another.
-use Rattle.std.proofs.Common.{◌≡◌, List, [], ◌∷◌, ◌++◌, Bool, true, false, IsTrue, pos, Some, None, IsSome, refl, ap, ◌∙◌, sym, cond}
+use Rattle.std.proofs.Common.{◌≡◌, List, [], ◌∷◌, ◌++◌, Bool, true, false, ◌&&◌, Some, None, refl, ap, ◌∙◌, subst, cond}
 use Rattle.std.specs.declared.option.Option.{Option}
 use Rattle.std.specs.List.{list_all}
-use Rattle.decision_model.specs.declared.kinds.Kind.TheVariants as kind
-use Rattle.value_cert.specs.Grammar.{has_numbers, next_place, step_of, place_from, place_after, IsWhole, IsFront}
+use Rattle.std.proofs.lemmas.Bool.{false≢true}
+use Rattle.decision_model.specs.declared.kinds.Kind.{Kind}
+use Rattle.value_cert.specs.Grammar.{has_numbers, next_place, step_of, place_from, has_ended}
+use Rattle.value_cert.specs.Kinds.{table_of}
+use Rattle.value_cert.specs.Tags.{tag_of}
 use Rattle.value_cert.specs.declared.line.CertLine.{CertLine}
-use Rattle.value_cert.specs.declared.line.CertLine.TheVariants as line
+use Rattle.value_cert.specs.declared.line.Tag.{Tag}
+use Rattle.value_cert.specs.declared.line.Tag.TheVariants as tag
 use Rattle.value_cert.specs.declared.place.Place.{Place}
 use Rattle.value_cert.specs.declared.place.Place.TheVariants as place
 
@@ -30,60 +34,43 @@ lines_have_numbers (Some from) (x ∷ xs) at h =
     let below : list_all has_numbers xs ≡ true = lines_have_numbers (step_of from x) xs at h in
     rw (here, below) refl
 
--- each line of a certificate has numbers that may stand there
-pub whole_has_numbers : (lines : List CertLine) → IsWhole lines → IsTrue (list_all has_numbers lines)
-whole_has_numbers lines h = lines_have_numbers (Some place.Start) lines place.Ended h
+-- a place at which the certificate has ended
+pub ended_at : (x : Option Place) → has_ended x ≡ true → (at : Place) × (x ≡ Some at)
+ended_at None h = absurd (false≢true h)
+ended_at (Some at) h = (at, refl)
 
--- lines that carry a certificate on from a place to its end
-abbrev pub rest_from : Place → List CertLine
-rest_from place.Start = line.Head kind.News (pos 1) (pos 1) ∷ line.Level (pos 0) ∷ line.Cost (pos 0) ∷ line.End ∷ []
-rest_from place.Level = line.Level (pos 0) ∷ line.Cost (pos 0) ∷ line.End ∷ []
-rest_from place.FirstOrder = line.Order (pos 0) (pos 0) ∷ line.Cost (pos 0) ∷ line.End ∷ []
-rest_from place.NextOrder = line.Cost (pos 0) ∷ line.End ∷ []
-rest_from place.Cost = line.Cost (pos 0) ∷ line.End ∷ []
-rest_from place.FinitePeriod = line.Period (pos 0) ∷ line.Value (pos 0) (pos 0) (pos 0) ∷ line.End ∷ []
-rest_from place.FirstValue = line.Value (pos 0) (pos 0) (pos 0) ∷ line.End ∷ []
-rest_from place.Gain = line.Gain (pos 0) (pos 0) ∷ line.Pair (pos 0) (pos 0) ∷ line.Point (pos 0) (pos 0) (pos 0) ∷ line.End ∷ []
-rest_from place.Pair = line.Pair (pos 0) (pos 0) ∷ line.Point (pos 0) (pos 0) (pos 0) ∷ line.End ∷ []
-rest_from place.FirstPoint = line.Point (pos 0) (pos 0) (pos 0) ∷ line.End ∷ []
-rest_from place.SerialPeriod = line.Period (pos 0) ∷ line.Echelon (pos 0) (pos 0) ∷ line.Part (pos 0) (pos 0) ∷ line.End ∷ []
-rest_from place.Echelon = line.Echelon (pos 0) (pos 0) ∷ line.Part (pos 0) (pos 0) ∷ line.End ∷ []
-rest_from place.FirstPart = line.Part (pos 0) (pos 0) ∷ line.End ∷ []
-rest_from place.Ended = []
-rest_from _ = line.End ∷ []
+-- what a step means for the lines behind it
+pub stepped : (numbers : Bool) (next : Option Place) (lines : List CertLine) → has_ended (place_from (cond numbers next None) lines) ≡ true
+    → (numbers ≡ true) × (has_ended (place_from next lines) ≡ true)
+stepped true next lines h = (refl, h)
+stepped false next lines h = absurd (false≢true h)
 
--- they do
-pub rest_from-ends : (at : Place) → place_from (Some at) (rest_from at) ≡ Some place.Ended
-rest_from-ends place.Start = refl
-rest_from-ends place.Level = refl
-rest_from-ends place.FirstOrder = refl
-rest_from-ends place.NextOrder = refl
-rest_from-ends place.Cost = refl
-rest_from-ends place.FinitePeriod = refl
-rest_from-ends place.FirstValue = refl
-rest_from-ends place.NextValue = refl
-rest_from-ends place.Gain = refl
-rest_from-ends place.Pair = refl
-rest_from-ends place.FirstPoint = refl
-rest_from-ends place.NextPoint = refl
-rest_from-ends place.SerialPeriod = refl
-rest_from-ends place.Echelon = refl
-rest_from-ends place.FirstPart = refl
-rest_from-ends place.NextPart = refl
-rest_from-ends place.End = refl
-rest_from-ends place.Ended = refl
+-- no line may stand there
+pub nowhere : {A : Type 0} (numbers : Bool) (lines : List CertLine) → has_ended (place_from (cond numbers None None) lines) ≡ true → A
+nowhere true lines h = absurd (false≢true h)
+nowhere false lines h = absurd (false≢true h)
 
--- lines behind which there is a place can be carried on to a whole certificate
-pub front_from_place : (lines : List CertLine) (at : Place) → place_after lines ≡ Some at → IsFront lines
-front_from_place lines at h =
-    (rest_from at, place_from-append (Some place.Start) lines (rest_from at) ∙ ap (λ from. place_from from (rest_from at)) h ∙ rest_from-ends at)
+-- behind the end stands nothing
+pub at_ended : (kind : Kind) → ((next : Tag) → (table_of kind).follows tag.End next ≡ false) → (lines : List CertLine)
+    → has_ended (place_from (Some (place.Behind kind tag.End)) lines) ≡ true → lines ≡ []
+at_ended kind last [] h = refl
+at_ended kind last (x ∷ xs) h =
+    let P : Bool → Type 0 = λ b. has_ended (place_from (cond (has_numbers x) (cond b (Some (place.Behind kind (tag_of x))) None) None) xs) ≡ true in
+    nowhere (has_numbers x) xs (subst P (last (tag_of x)) h)
 
--- where further lines lead somewhere, there was a place
-place_was : (from : Option Place) (more : List CertLine) (at : Place) → place_from from more ≡ Some at → IsSome from
-place_was None more at h = cc
-place_was (Some from) more at h = refl
+-- the place behind lines whose numbers are right
+abbrev pub walk_from : Option Place → List CertLine → Option Place
+walk_from None lines = None
+walk_from (Some at) [] = Some at
+walk_from (Some at) (next ∷ lines) = walk_from (next_place at next) lines
 
--- and behind the front of a certificate there is a place
-pub place_from_front : (lines : List CertLine) → IsFront lines → IsSome (place_after lines)
-place_from_front lines front =
-    place_was (place_after lines) front.0 place.Ended (sym (place_from-append (Some place.Start) lines front.0) ∙ front.1)
+pub walk_is : (from : Option Place) (lines : List CertLine) → list_all has_numbers lines ≡ true → place_from from lines ≡ walk_from from lines
+walk_is None lines h = refl
+walk_is (Some at) [] h = refl
+walk_is (Some at) (x ∷ xs) h =
+    let tests = split (has_numbers x) (list_all has_numbers xs) h in
+    ap (λ b. place_from (cond b (next_place at x) None) xs) tests.0 ∙ walk_is (next_place at x) xs tests.1
+  where
+    split : (a b : Bool) → (a && b) ≡ true → (a ≡ true) × (b ≡ true)
+    split true b h = (refl, h)
+    split false b h = absurd (false≢true h)

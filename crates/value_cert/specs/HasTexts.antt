@@ -1,26 +1,24 @@
 -- Certificates that have a text.
-use Rattle.std.proofs.Common.{◌≡◌, ℕ, ◌+◌, ◌-◌, ◌*◌, ◌^◌, ◌<◌, ◌≤◌, List, [], ◌∷◌, ◌++◌, length, sum, Bool, true, false, ◌&&◌, cond, ℤ, pos, ◌≤ℤ◌, ◌*ℤ◌, Some, None, refl, ap, ◌∙◌, sym, subst, arith, append_assoc}
-use Rattle.std.specs.Prelude.{int_le, nat_le}
-use Rattle.std.proofs.Math.Nat.{mul-le-mul}
-use Rattle.std.specs.declared.option.Option.{Option}
-use Rattle.std.proofs.lemmas.Bool.{le-leb}
-use Rattle.std.proofs.lemmas.Int.{ints}
-use Rattle.demand_law.specs.Law.{weighted}
 use Rattle.demand_law.specs.WeightedSums.{sum-cons, weighted_most}
-use Rattle.newsvendor.specs.Cost.{mismatch_cost, level_cost}
+use Rattle.newsvendor.specs.Cost.{mismatch_cost}
 use Rattle.newsvendor.specs.Item.{NewsvendorItem, IsNewsvendor}
 use Rattle.newsvendor.specs.Level.{cost_of}
 use Rattle.newsvendor.specs.declared.solve.NewsCert.{NewsCert}
-use Rattle.value_cert.specs.Grammar.{place_from}
-use Rattle.value_cert.specs.Meaning.{IsLeastLevelAt}
+use Rattle.std.proofs.Common.{◌≡◌, ℕ, ◌+◌, ◌-◌, ◌*◌, ◌^◌, ◌<◌, ◌≤◌, List, [], ◌∷◌, ◌++◌, length, sum, true, ◌&&◌, ℤ, pos, ◌≤ℤ◌, ◌*ℤ◌, refl, ap, ◌∙◌, sym, subst, arith}
+use Rattle.std.proofs.Math.Nat.{mul-le-mul}
+use Rattle.std.proofs.lemmas.Bool.{le-leb}
+use Rattle.std.proofs.lemmas.Int.{ints}
+use Rattle.std.proofs.lemmas.List.Folds.{list_all-append}
+use Rattle.std.specs.List.{list_all}
+use Rattle.std.specs.Prelude.{nat_le}
+use Rattle.value_cert.specs.Grammar.{has_numbers}
+use Rattle.value_cert.specs.Lots.{order_lines}
+use Rattle.value_cert.specs.NewsRules.{IsLeastLevelAt}
 use Rattle.value_cert.specs.Numbers.{is_natural}
-use Rattle.value_cert.specs.Texts.{order_lines, HasText}
-use Rattle.value_cert.specs.declared.certificates.LotCert.{LotCert}
-use Rattle.value_cert.specs.declared.certificates.Cert.TheVariants as cert
-use Rattle.value_cert.specs.declared.line.CertLine.{CertLine}
+use Rattle.value_cert.specs.Texts.{HasText}
+use Rattle.value_cert.specs.declared.cert.Cert.TheVariants as cert
 use Rattle.value_cert.specs.declared.line.CertLine.TheVariants as line
-use Rattle.value_cert.specs.declared.place.Place.{Place}
-use Rattle.value_cert.specs.declared.place.Place.TheVariants as place
+use Rattle.value_cert.specs.declared.lots.LotCert.{LotCert}
 
 -- a number of ℕ that is small may stand where a natural number may
 natural : (n : ℕ) → n ≤ 2 ^ 120 → is_natural (pos n) ≡ true
@@ -29,17 +27,9 @@ natural n small =
     let high : nat_le n (2 ^ 120) ≡ true = le-leb n (2 ^ 120) small in
     rw (low, high) refl
 
--- a line with its numbers may stand
-passes : (numbers : Bool) (next : Option Place) (lines : List CertLine) → numbers ≡ true → place_from (cond numbers next None) lines ≡ place_from next lines
-passes numbers next lines h = ap (λ b. place_from (cond b next None) lines) h
-
 -- a level with a small cost has a text
 pub news_text : (c : NewsCert) → c.q ≤ 2 ^ 120 → c.cost ≤ 2 ^ 120 → HasText (cert.News c)
-news_text c q cost = record {
-  whole = passes (is_natural (pos c.q)) (Some place.Cost) (line.Cost (pos c.cost) ∷ line.End ∷ []) (natural c.q q)
-      ∙ passes (is_natural (pos c.cost)) (Some place.End) (line.End ∷ []) (natural c.cost cost);
-  duals = tt;
-}
+news_text c q cost = record { numbers = rw (natural c.q q, natural c.cost cost) refl; complete = tt }
 
 -- what a level of 0 costs at a demand
 none_cost : (item : NewsvendorItem) → IsNewsvendor item → (d : ℕ) → d < length item.law → pos (mismatch_cost item.holding item.stockout 0 d) ≤ℤ pos 10000000000
@@ -65,30 +55,25 @@ least_cost_small item valid c least =
 pub least_level_text : (item : NewsvendorItem) → IsNewsvendor item → (c : NewsCert) → IsLeastLevelAt item c → c.q ≤ 2 ^ 120 → HasText (cert.News c)
 least_level_text item valid c least q = news_text c q (least_cost_small item valid c least)
 
-next_orders : (orders duals : List ℕ) (rest : List CertLine) → length duals ≡ length orders → sum orders ≤ 2 ^ 120 → sum duals ≤ 2 ^ 120
-    → place_from (Some place.NextOrder) (order_lines orders duals ++ rest) ≡ place_from (Some place.NextOrder) rest
-next_orders [] [] rest each small short = refl
-next_orders [] (dual ∷ duals) rest each small short = absurd (omega (arith, each))
-next_orders (order ∷ orders) [] rest each small short = absurd (omega (arith, each))
-next_orders (order ∷ orders) (dual ∷ duals) rest each small short =
+-- the numbers of orders and duals with small sums
+order_numbers : (orders duals : List ℕ) → sum orders ≤ 2 ^ 120 → sum duals ≤ 2 ^ 120 → list_all has_numbers (order_lines orders duals) ≡ true
+order_numbers [] duals small short = refl
+order_numbers (order ∷ orders) [] small short = refl
+order_numbers (order ∷ orders) (dual ∷ duals) small short =
     let first = natural order (omega (arith, sum-cons order orders, small)) in
     let second = natural dual (omega (arith, sum-cons dual duals, short)) in
-    passes (is_natural (pos order) && is_natural (pos dual)) (Some place.NextOrder) (order_lines orders duals ++ rest) (rw (first, second) refl)
-    ∙ next_orders orders duals rest (omega (arith, each)) (omega (arith, sum-cons order orders, small)) (omega (arith, sum-cons dual duals, short))
-
-first_orders : (orders duals : List ℕ) (rest : List CertLine) → 0 < length orders → length duals ≡ length orders → sum orders ≤ 2 ^ 120 → sum duals ≤ 2 ^ 120
-    → place_from (Some place.FirstOrder) (order_lines orders duals ++ rest) ≡ place_from (Some place.NextOrder) rest
-first_orders [] duals rest some each small short = absurd (omega (arith, some))
-first_orders (order ∷ orders) [] rest some each small short = absurd (omega (arith, each))
-first_orders (order ∷ orders) (dual ∷ duals) rest some each small short = next_orders (order ∷ orders) (dual ∷ duals) rest each small short
+    let rest = order_numbers orders duals (omega (arith, sum-cons order orders, small)) (omega (arith, sum-cons dual duals, short)) in
+    rw (first, second, rest) refl
 
 -- a plan of some orders with one dual an order, and small sums, has a text
 pub lots_text : (c : LotCert) → 0 < length c.orders → length c.duals ≡ length c.orders → sum c.orders ≤ 2 ^ 120 → sum c.duals ≤ 2 ^ 120 → c.cost ≤ 2 ^ 120 → HasText (cert.Lots c)
 lots_text c some each orders duals cost =
-    let last = line.Cost (pos c.cost) ∷ line.End ∷ [] in
+    let lines = order_lines c.orders c.duals in
+    let last = line.Cost (pos c.cost) ∷ [] in
+    let end : list_all has_numbers last ≡ true = rw (natural c.cost cost) refl in
+    let front : list_all has_numbers (lines ++ last) ≡ true =
+    list_all-append has_numbers lines last ∙ ap (λ b. b && list_all has_numbers last) (order_numbers c.orders c.duals orders duals) ∙ end in
     record {
-      whole = ap (place_from (Some place.FirstOrder)) (append_assoc (order_lines c.orders c.duals) (line.Cost (pos c.cost) ∷ []) (line.End ∷ []))
-          ∙ first_orders c.orders c.duals last some each orders duals
-          ∙ passes (is_natural (pos c.cost)) (Some place.End) (line.End ∷ []) (natural c.cost cost);
-      duals = each;
+      numbers = list_all-append has_numbers (lines ++ last) (line.End ∷ []) ∙ ap (λ b. b && list_all has_numbers (line.End ∷ [])) front;
+      complete = record { some = some; each = each };
     }

@@ -1,7 +1,7 @@
 -- Lot plans and their costs. Periods are places of lists, from 0.
-use Rattle.std.specs.Prelude.{◌≡◌, ℕ, ◌+◌, ◌-◌, ◌*◌, ◌≤◌, List, length, slice_index, sum, take, ◌==◌, if◌then◌else◌}
+use Rattle.std.specs.Prelude.{◌≡◌, ℕ, ◌+◌, ◌-◌, ◌*◌, ◌≤◌, List, length, slice_index, sum, take, drop, ◌==◌, if◌then◌else◌}
 use Rattle.std.specs.List.{range_with_len, sum_by}
-use Rattle.decision_model.specs.declared.instance.LotSize.{LotSize}
+use Rattle.decision_model.specs.declared.lots.LotSize.{LotSize}
 
 -- the demand of the first periods
 abbrev pub demand_upto : LotSize → ℕ → ℕ
@@ -34,3 +34,11 @@ pub record LeastPlan (item : LotSize) (orders : List ℕ) (cost : ℕ) : Type 0 
   pub plan : IsPlan item orders
   pub cost_is : plan_cost item orders ≡ cost
   pub least : (other : List ℕ) → IsPlan item other → cost ≤ plan_cost item other
+
+-- the holding cost of a unit from the end of period t to the beginning of period k
+abbrev pub holding_between : LotSize → ℕ → ℕ → ℕ
+holding_between item t k = sum (take (k - t) (drop t item.holding))
+
+-- the cost of serving the demand of period k from an order in period t, its setup aside
+abbrev pub serving_cost : LotSize → ℕ → ℕ → ℕ
+serving_cost item t k = slice_index item.demand k * (slice_index item.unit t + holding_between item t k)

@@ -1,9 +1,9 @@
 -- The lot plan of the solver, by the recursion over last order periods of Wagner and Whitin (1958). Periods are places of lists, from 0.
 use Rattle.std.specs.Prelude.{ℕ, zero, suc, ◌+◌, ◌-◌, List, [], ◌∷◌, ◌++◌, length, slice_index, slice_index_or, sum, take, drop, map, replicate, nat_le, ◌==◌, if◌then◌else◌}
 use Rattle.std.specs.List.{range_with_len, sum_by}
-use Rattle.decision_model.specs.declared.instance.LotSize.{LotSize}
-use Rattle.value_cert.specs.LotRules.{serving_cost}
-use Rattle.value_cert.specs.declared.certificates.LotCert.{LotCert}
+use Rattle.decision_model.specs.declared.lots.LotSize.{LotSize}
+use Rattle.value_cert.specs.LotPlans.{serving_cost}
+use Rattle.value_cert.specs.declared.lots.LotCert.{LotCert}
 
 -- the cost of an order in period t that serves the periods from t to s
 abbrev pub order_cost : LotSize → ℕ → ℕ → ℕ

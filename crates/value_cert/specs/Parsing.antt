@@ -4,8 +4,9 @@ use Rattle.std.specs.Fmt.{signed_decimal}
 use Rattle.std.specs.List.{slice_split}
 use Rattle.std.specs.Str.{bytes_eq}
 use Rattle.std.specs.Str.Parse.{signed_digits_value}
+use Rattle.decision_model.specs.Kind.{kind_named}
 use Rattle.decision_model.specs.declared.kinds.Kind.{Kind}
-use Rattle.decision_model.specs.declared.kinds.Kind.TheVariants as kind
+use Rattle.value_cert.specs.Kinds.{has_certificates}
 use Rattle.value_cert.specs.Numbers.{is_one, is_whole}
 use Rattle.value_cert.specs.declared.line.CertLine.{CertLine}
 use Rattle.value_cert.specs.declared.line.CertLine.TheVariants.{Head, Level, Order, Cost, Period, Value, Gain, Pair, Point, Echelon, Part, End}
@@ -15,14 +16,14 @@ abbrev pub word_number : List ℕ → Option ℤ
 word_number word = let number = signed_digits_value 10 word in
     if bytes_eq word (signed_decimal number) && is_whole number then Some number else None
 
--- the kind that a word names
-abbrev pub word_kind : List ℕ → Option Kind
-word_kind word =
-    if bytes_eq word (codes "newsvendor") then Some kind.News
-    else (if bytes_eq word (codes "lots") then Some kind.Lots
-    else (if bytes_eq word (codes "finite") then Some kind.Finite
-    else (if bytes_eq word (codes "average") then Some kind.Average
-    else (if bytes_eq word (codes "serial") then Some kind.Serial else None))))
+-- a kind where it has certificates
+abbrev pub certified : Option Kind → Option Kind
+certified None = None
+certified (Some kind) = if has_certificates kind then Some kind else None
+
+-- the kind with certificates that a word names
+unfoldable pub word_kind : List ℕ → Option Kind
+word_kind word = certified (kind_named word)
 
 -- the head without a discount
 abbrev pub plain_head : List ℕ → Option Kind → Option CertLine

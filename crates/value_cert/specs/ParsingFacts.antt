@@ -1,22 +1,26 @@
 -- How the text of a line splits, that each line has one text, and how long that can be.
-use Rattle.std.proofs.Common.{lit≤, ◌≡◌, ℕ, ◌+◌, ◌^◌, ◌≤◌, Bool, true, false, cond, if◌then◌else◌, ◌&&◌, List, [], ◌∷◌, ◌++◌, length, ℤ, pos, negsuc, Option, Some, None, ◌⊎◌, inl, inr, ⊎_elim, sym, refl, ap, ◌∙◌, subst, arith, append_assoc}
-use Rattle.std.specs.Prelude.{◌==◌, unsigned_abs, codes, int_le}
+use Rattle.std.proofs.Common.{lit≤, ◌≡◌, ℕ, ◌+◌, ◌^◌, ◌≤◌, Bool, true, false, cond, ◌&&◌, List, [], ◌∷◌, ◌++◌, length, ℤ, pos, negsuc, Option, Some, None, ◌⊎◌, inl, inr, ⊎_elim, sym, refl, ap, ◌∙◌, subst, arith, append_assoc}
+use Rattle.std.specs.Prelude.{◌==◌, unsigned_abs, codes, int_le, find}
 use Rattle.std.specs.Fmt.{signed_decimal}
 use Rattle.std.specs.List.{slice_split, join_with_byte}
 use Rattle.std.specs.Str.{bytes_eq}
 use Rattle.std.proofs.lemmas.Bool.{leb-true, false≢true}
+use Rattle.std.proofs.lemmas.Option.{cond_some}
 use Rattle.std.proofs.lemmas.List.{length-append}
 use Rattle.std.proofs.lemmas.List.Splits.{slice_split_none, slice_split_at, join_with_byte-slice_split}
 use Rattle.std.proofs.lemmas.List.Elements.{All-append}
 use Rattle.std.proofs.lemmas.Slice.Eq.{bytes_eq-Decides}
 use Rattle.decision_model.specs.declared.kinds.Kind.{Kind}
-use Rattle.decision_model.specs.declared.kinds.Kind.TheVariants as kind
 use Rattle.value_cert.specs.Grammar.{takes_discount, has_numbers}
-use Rattle.decision_model.specs.Kind.{kind_word}
-use Rattle.value_cert.specs.Lines.{number_word, head_words, line_words, line_text}
-use Rattle.value_cert.specs.NumberFacts.{both, all_cons, all_none, number_without, number_length, small_from_whole, small_from_natural, whole_from_small, word_number-signed_decimal, signed_decimal-word_number}
-use Rattle.value_cert.specs.Numbers.{is_natural, is_whole, is_discount, is_one, is_number}
-use Rattle.value_cert.specs.Parsing.{word_number, word_kind, plain_head, discount_head, one_number, two_numbers, three_numbers, words_line, line_of}
+use Rattle.decision_model.specs.Kind.{kind_word, all_kinds, kind_named}
+use Rattle.value_cert.specs.CertFacts.{facts_of}
+use Rattle.value_cert.specs.KindFacts.{one_is}
+use Rattle.value_cert.specs.KindWords.{lacks, lacking, named}
+use Rattle.value_cert.specs.Kinds.{has_certificates}
+use Rattle.value_cert.specs.Lines.{number_word, head_words, line_words}
+use Rattle.value_cert.specs.NumberFacts.{both, all_cons, number_without, number_length, small_from_whole, small_from_natural, whole_from_small, word_number-signed_decimal, signed_decimal-word_number}
+use Rattle.value_cert.specs.Numbers.{is_natural, is_whole, is_discount, is_one}
+use Rattle.value_cert.specs.Parsing.{word_number, certified, word_kind, plain_head, discount_head, one_number, two_numbers, three_numbers, words_line, line_of}
 use Rattle.value_cert.specs.LineWords.{IsWithout, is_blank}
 use Rattle.value_cert.specs.declared.line.CertLine.{CertLine}
 use Rattle.value_cert.specs.declared.line.CertLine.TheVariants.{Head, Level, Order, Cost, Period, Value, Gain, Pair, Point, Echelon, Part, End}
@@ -61,61 +65,34 @@ discount_small (pos n) (pos d) h =
 discount_small (pos n) (negsuc d) h = absurd (false≢true (both (int_le (pos 1) (pos n)) (int_le (pos n) (negsuc d)) (both (int_le (pos 1) (pos n) && int_le (pos n) (negsuc d)) (int_le (negsuc d) (pos 1000)) h).0).1)
 discount_small (negsuc n) den h = absurd (false≢true h)
 
--- a discount that a kind may have
-kind_discount : (kind : Kind) (num den : ℤ) → takes_discount kind num den ≡ true → is_discount num den ≡ true
-kind_discount kind.News num den h = (both _ _ h).0
-kind_discount kind.Lots num den h = (both _ _ h).0
-kind_discount kind.Average num den h = (both _ _ h).0
-kind_discount kind.Finite num den h = h
-kind_discount kind.Serial num den h = h
-kind_discount kind.Network num den h = absurd (false≢true h)
-
--- 1/1
-is_one-true : (num den : ℤ) → is_one num den ≡ true → (num ≡ pos 1) × (den ≡ pos 1)
-is_one-true num den h =
-    let tests = both (is_number (pos 1) num) (is_number (pos 1) den) h in
-    (number_one num tests.0, number_one den tests.1)
-  where
-    number_one : (z : ℤ) → is_number (pos 1) z ≡ true → z ≡ pos 1
-    number_one (pos n) t = let low = leb-true 1 n (both (int_le (pos 1) (pos n)) (int_le (pos n) (pos 1)) t).0 in let high = leb-true n 1 (both (int_le (pos 1) (pos n)) (int_le (pos n) (pos 1)) t).1 in ap pos (omega arith)
-    number_one (negsuc n) t = absurd (false≢true t)
-
 true_or_false : (b : Bool) → (b ≡ true) ⊎ (b ≡ false)
 true_or_false true = inl refl
 true_or_false false = inr refl
 
+-- the word of a kind that has certificates names it
+word_kind-kind_word : (which : Kind) → has_certificates which ≡ true → word_kind (kind_word which) ≡ Some which
+unfolding word_kind
+word_kind-kind_word which h = rw ((named which).found, h) refl
+
 -- a head without a discount
 plain_words : (which : Kind) (num den : ℤ) → is_one num den ≡ true → takes_discount which num den ≡ true → line_of (head_words which num den) ≡ Some (Head which num den)
 plain_words which num den one h =
-    let is = is_one-true num den one in
+    let is = one_is num den one in
     let P : ℤ → ℤ → Type 0 = λ n d. line_of (head_words which n d) ≡ Some (Head which n d) in
-    let here : P (pos 1) (pos 1) = one_kind which num den h in
+    let here : P (pos 1) (pos 1) = rw (one_word (kind_word which) (named which).one_word, word_kind-kind_word which ((facts_of which).plain num den h)) refl in
     let Q : ℤ → Type 0 = λ n. P n (pos 1) in
     let R : ℤ → Type 0 = λ d. P num d in
     subst R (sym is.1) (subst Q (sym is.0) here)
-  where
-    one_kind : (which : Kind) (num den : ℤ) → takes_discount which num den ≡ true → line_of (head_words which (pos 1) (pos 1)) ≡ Some (Head which (pos 1) (pos 1))
-    one_kind kind.News num den h = refl
-    one_kind kind.Lots num den h = refl
-    one_kind kind.Finite num den h = refl
-    one_kind kind.Average num den h = refl
-    one_kind kind.Serial num den h = refl
-    one_kind kind.Network num den h = absurd (false≢true h)
 
 -- a head with a discount
 discount_words : (which : Kind) (num den : ℤ) → is_one num den ≡ false → takes_discount which num den ≡ true → line_of (head_words which num den) ≡ Some (Head which num den)
 discount_words which num den one h =
-    let small = discount_small num den (kind_discount which num den h) in
-    rw one (spelled which (word_number-signed_decimal num (whole_from_small num (omega arith))) (word_number-signed_decimal den (whole_from_small den (omega arith))) h)
-  where
-    spelled : (which : Kind) → word_number (signed_decimal num) ≡ Some num → word_number (signed_decimal den) ≡ Some den → takes_discount which num den ≡ true
-        → line_of (codes "certificate 2 " ++ kind_word which ++ number_word num ++ number_word den) ≡ Some (Head which num den)
-    spelled kind.News n d h = rw (two_numerals num den, n, d, one) refl
-    spelled kind.Lots n d h = rw (two_numerals num den, n, d, one) refl
-    spelled kind.Finite n d h = rw (two_numerals num den, n, d, one) refl
-    spelled kind.Average n d h = rw (two_numerals num den, n, d, one) refl
-    spelled kind.Serial n d h = rw (two_numerals num den, n, d, one) refl
-    spelled kind.Network n d h = absurd (false≢true h)
+    let small = discount_small num den ((facts_of which).discount num den h) in
+    let words = three_words (kind_word which) (signed_decimal num) (signed_decimal den) (named which).one_word (number_without 32 num (omega arith)) (number_without 32 den (omega arith)) in
+    let kind = word_kind-kind_word which ((facts_of which).plain num den h) in
+    let above = word_number-signed_decimal num (whole_from_small num (omega arith)) in
+    let below = word_number-signed_decimal den (whole_from_small den (omega arith)) in
+    rw one (rw (words, kind, above, below, one) refl)
 
 -- the text of each line with numbers that may stand there spells that line
 pub line_of-line_words : (line : CertLine) → has_numbers line ≡ true → line_of (line_words line) ≡ Some line
@@ -205,15 +182,25 @@ three_number_words tag a b c line h =
     by_word P tag (codes "v") (Value a b c) _ line h (ap (λ (t : List ℕ). 118 ∷ 32 ∷ t) same) (λ h.
     by_word P tag (codes "p") (Point a b c) None line h (ap (λ (t : List ℕ). 112 ∷ 32 ∷ t) same) (no_result line (P line tag)))
 
+-- what is found passes the test
+find_passes : (p : Kind → Bool) (kinds : List Kind) (which : Kind) → find p kinds ≡ Some which → p which ≡ true
+find_passes p [] which h = cc
+find_passes p (first ∷ kinds) which h = by (p first) refl h (find_passes p kinds which)
+  where
+    by : (passes : Bool) → p first ≡ passes → cond passes (Some first) (find p kinds) ≡ Some which → (find p kinds ≡ Some which → p which ≡ true) → p which ≡ true
+    by true is found later = let same : first ≡ which = cc in subst (λ k. p k ≡ true) same is
+    by false is found later = later found
+
+-- a kind that has certificates was one before
+certified_was : (x : Option Kind) (which : Kind) → certified x ≡ Some which → x ≡ Some which
+certified_was None which h = no_result which (None ≡ Some which) h
+certified_was (Some first) which h = ap Some (cond_some (has_certificates first) first which h).1
+
 -- the word of a kind
 kind_word-word_kind : (word : List ℕ) (which : Kind) → word_kind word ≡ Some which → kind_word which ≡ word
+unfolding word_kind
 kind_word-word_kind word which h =
-    let P : Kind → List ℕ → Type 0 = λ k w. kind_word k ≡ w in
-    by_word P word (codes "newsvendor") kind.News _ which h refl (λ h.
-    by_word P word (codes "lots") kind.Lots _ which h refl (λ h.
-    by_word P word (codes "finite") kind.Finite _ which h refl (λ h.
-    by_word P word (codes "average") kind.Average _ which h refl (λ h.
-    by_word P word (codes "serial") kind.Serial None which h refl (no_result which (P which word))))))
+    (bytes_eq-Decides (kind_word which) word).0 (find_passes (λ k. bytes_eq (kind_word k) word) all_kinds which (certified_was (kind_named word) which h))
 
 plain_head_words : (version : List ℕ) (which : Kind) (line : CertLine) → plain_head version (Some which) ≡ Some line → Spells line (codes "certificate" ∷ version ∷ kind_word which ∷ [])
 plain_head_words version which line h =
@@ -304,46 +291,27 @@ pub line_words-line_of : (bytes : List ℕ) (line : CertLine) → line_of bytes 
 line_words-line_of bytes line h = words_line-spells (slice_split is_blank bytes) line h ∙ join_with_byte-slice_split 32 bytes
 
 -- no line's words hold a line feed
-abbrev lacks_feed : List ℕ → Bool
-lacks_feed [] = true
-lacks_feed (byte ∷ bytes) = if byte == 10 then false else lacks_feed bytes
-
-lacking : (bytes : List ℕ) → lacks_feed bytes ≡ true → IsWithout 10 bytes
-lacking [] h = all_none (λ b. (b == 10) ≡ false)
-lacking (byte ∷ bytes) h =
-    ⊎_elim (λ (t : ((byte == 10) ≡ true) × (false ≡ true)). absurd (false≢true t.1))
-    (λ (t : ((byte == 10) ≡ false) × (lacks_feed bytes ≡ true)). all_cons (λ b. (b == 10) ≡ false) byte bytes t.0 (lacking bytes t.1))
-    (taken (byte == 10) false (lacks_feed bytes) true h)
-
 without_append : (xs ys : List ℕ) → IsWithout 10 xs → IsWithout 10 ys → IsWithout 10 (xs ++ ys)
 without_append xs ys h k = All-append (λ b. (b == 10) ≡ false) xs ys h k
 
 word_without : (z : ℤ) → IsWithout 10 (number_word z)
 word_without z = all_cons (λ b. (b == 10) ≡ false) 32 (signed_decimal z) refl (number_without 10 z (omega arith))
 
-kind_without : (which : Kind) → IsWithout 10 (kind_word which)
-kind_without kind.News = lacking (kind_word kind.News) refl
-kind_without kind.Lots = lacking (kind_word kind.Lots) refl
-kind_without kind.Finite = lacking (kind_word kind.Finite) refl
-kind_without kind.Average = lacking (kind_word kind.Average) refl
-kind_without kind.Serial = lacking (kind_word kind.Serial) refl
-kind_without kind.Network = lacking (kind_word kind.Network) refl
-
 head_without : (which : Kind) (num den : ℤ) (b : Bool)
     → IsWithout 10 (cond b (codes "certificate 1 " ++ kind_word which) (codes "certificate 2 " ++ kind_word which ++ number_word num ++ number_word den))
-head_without which num den true = without_append (codes "certificate 1 ") (kind_word which) (lacking (codes "certificate 1 ") refl) (kind_without which)
+head_without which num den true = without_append (codes "certificate 1 ") (kind_word which) (lacking 10 (codes "certificate 1 ") refl) (named which).one_line
 head_without which num den false =
     without_append (codes "certificate 2 " ++ kind_word which ++ number_word num) (number_word den)
     (without_append (codes "certificate 2 " ++ kind_word which) (number_word num)
-    (without_append (codes "certificate 2 ") (kind_word which) (lacking (codes "certificate 2 ") refl) (kind_without which)) (word_without num)) (word_without den)
+    (without_append (codes "certificate 2 ") (kind_word which) (lacking 10 (codes "certificate 2 ") refl) (named which).one_line) (word_without num)) (word_without den)
 
-one_without : (tag : List ℕ) (a : ℤ) → lacks_feed tag ≡ true → IsWithout 10 (tag ++ number_word a)
-one_without tag a h = without_append tag (number_word a) (lacking tag h) (word_without a)
+one_without : (tag : List ℕ) (a : ℤ) → lacks 10 tag ≡ true → IsWithout 10 (tag ++ number_word a)
+one_without tag a h = without_append tag (number_word a) (lacking 10 tag h) (word_without a)
 
-two_without : (tag : List ℕ) (a b : ℤ) → lacks_feed tag ≡ true → IsWithout 10 (tag ++ number_word a ++ number_word b)
+two_without : (tag : List ℕ) (a b : ℤ) → lacks 10 tag ≡ true → IsWithout 10 (tag ++ number_word a ++ number_word b)
 two_without tag a b h = without_append (tag ++ number_word a) (number_word b) (one_without tag a h) (word_without b)
 
-three_without : (tag : List ℕ) (a b c : ℤ) → lacks_feed tag ≡ true → IsWithout 10 (tag ++ number_word a ++ number_word b ++ number_word c)
+three_without : (tag : List ℕ) (a b c : ℤ) → lacks 10 tag ≡ true → IsWithout 10 (tag ++ number_word a ++ number_word b ++ number_word c)
 three_without tag a b c h = without_append (tag ++ number_word a ++ number_word b) (number_word c) (two_without tag a b h) (word_without c)
 
 pub line_words-without : (line : CertLine) → IsWithout 10 (line_words line)
@@ -358,7 +326,7 @@ line_words-without (Pair a b) = two_without (codes "s") a b refl
 line_words-without (Point a b c) = three_without (codes "p") a b c refl
 line_words-without (Echelon a b) = two_without (codes "e") a b refl
 line_words-without (Part a b) = two_without (codes "f") a b refl
-line_words-without End = lacking (codes "end") refl
+line_words-without End = lacking 10 (codes "end") refl
 
 -- a line with numbers that may stand there is short: with its line feed it has fewer than 128 bytes
 word_length : (z : ℤ) → unsigned_abs z ≤ 2 ^ 120 → length (number_word z) ≤ 39
@@ -374,23 +342,15 @@ three_length : (tag : List ℕ) (a b c : ℤ) → unsigned_abs a ≤ 2 ^ 120 →
     → length (tag ++ number_word a ++ number_word b ++ number_word c) ≤ length tag + 117
 three_length tag a b c h k l = omega (arith, length-append (tag ++ number_word a ++ number_word b) (number_word c), two_length tag a b h k, word_length c l)
 
-kind_length : (which : Kind) → length (kind_word which) ≤ 10
-kind_length kind.News = lit≤ tt
-kind_length kind.Lots = lit≤ tt
-kind_length kind.Finite = lit≤ tt
-kind_length kind.Average = lit≤ tt
-kind_length kind.Serial = lit≤ tt
-kind_length kind.Network = lit≤ tt
-
 head_length : (which : Kind) (num den : ℤ) (b : Bool) → unsigned_abs num ≤ 2 ^ 120 → unsigned_abs den ≤ 2 ^ 120
     → length (cond b (codes "certificate 1 " ++ kind_word which) (codes "certificate 2 " ++ kind_word which ++ number_word num ++ number_word den)) ≤ 126
-head_length which num den true h k = omega (arith, length-append (codes "certificate 1 ") (kind_word which), kind_length which)
+head_length which num den true h k = omega (arith, length-append (codes "certificate 1 ") (kind_word which), (named which).short)
 head_length which num den false h k =
-    omega (arith, two_length (codes "certificate 2 " ++ kind_word which) num den h k, length-append (codes "certificate 2 ") (kind_word which), kind_length which)
+    omega (arith, two_length (codes "certificate 2 " ++ kind_word which) num den h k, length-append (codes "certificate 2 ") (kind_word which), (named which).short)
 
 pub length-line_words : (line : CertLine) → has_numbers line ≡ true → length (line_words line) ≤ 126
 length-line_words (Head which num den) h =
-    let small = discount_small num den (kind_discount which num den h) in
+    let small = discount_small num den ((facts_of which).discount num den h) in
     head_length which num den (is_one num den) (omega arith) (omega arith)
 length-line_words (Level a) h = omega (arith, one_length (codes "q") a (small_from_natural a h))
 length-line_words (Cost a) h = omega (arith, one_length (codes "cost") a (small_from_natural a h))

@@ -2,10 +2,10 @@
 use Rattle.std.specs.Prelude.{◌≡◌, ◌⊎◌, ℕ, ◌+◌, ◌<◌, ◌≤◌, List, [], ◌++◌, length, take, Bool, true, false, Some, None, Result, Ok, Err, MatchOption, IsSomeAnd, Contains}
 use Rattle.stock_edge.specs.Causes.{next_count}
 use Rattle.value_cert.specs.Breaches.{next_line}
-use Rattle.value_cert.specs.Grammar.{step_of, place_after, IsWhole, IsFront}
+use Rattle.value_cert.specs.Grammar.{step_of, place_after}
+use Rattle.value_cert.specs.Texts.{IsWhole, IsFront, lines_text, IsText}
 use Rattle.value_cert.specs.LineWords.{IsWithout}
 use Rattle.value_cert.specs.Lines.{line_words, line_text}
-use Rattle.value_cert.specs.Texts.{lines_text, IsText}
 use Rattle.value_cert.specs.declared.line.CertLine.{CertLine}
 use Rattle.value_cert.specs.declared.place.Place.{Place}
 use Rattle.value_cert.specs.declared.reader.CertErr.{CertErr}

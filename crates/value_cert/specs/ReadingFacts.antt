@@ -2,7 +2,7 @@
 use Rattle.std.proofs.Common.{◌≡◌, ℕ, ◌+◌, ◌<◌, ◌≤◌, Bool, true, false, cond, List, [], ◌∷◌, ◌++◌, length, get_or, take, drop, Option, Some, None, Result, Ok, Err, inl, inr, ⊎_elim, sym, refl, ap, ◌∙◌, subst, arith, append_assoc, append-nil}
 use Rattle.std.specs.Prelude.{◌==◌, Contains, MatchOption, MatchResult, IfOk, IfErr, OnErr, IsSomeAnd, option_to_list}
 use Rattle.std.specs.List.{slice_split, join_with_byte}
-use Rattle.std.proofs.lemmas.Bool.{cases_lt}
+use Rattle.std.proofs.lemmas.Bool.{cases_lt, false≢true}
 use Rattle.std.proofs.lemmas.Grind.{flat_map-append}
 use Rattle.std.proofs.lemmas.List.{length-append, take_all, take-append-drop}
 use Rattle.std.proofs.lemmas.List.Elements.{All-append}
@@ -12,14 +12,15 @@ use Rattle.std.proofs.Math.Seq.{get_or-append_seam, take-append_seam}
 use Rattle.decision_model.specs.declared.instance.Instance.{Instance}
 use Rattle.stock_edge.specs.Causes.{next_count}
 use Rattle.value_cert.specs.Breaches.{next_line, piece_rule}
-use Rattle.value_cert.specs.Grammar.{has_numbers, next_place, step_of, place_from, place_after}
-use Rattle.value_cert.specs.GrammarFacts.{place_from-append, line_has_numbers, front_from_place}
+use Rattle.value_cert.specs.CertFacts.{whole_ends, front_from_place}
+use Rattle.value_cert.specs.Grammar.{has_numbers, next_place, step_of, place_from, place_after, has_ended}
+use Rattle.value_cert.specs.GrammarFacts.{place_from-append, line_has_numbers, stepped}
 use Rattle.value_cert.specs.LineWords.{IsWithout}
 use Rattle.value_cert.specs.Lines.{line_words, line_text}
 use Rattle.value_cert.specs.Parsing.{line_of}
 use Rattle.value_cert.specs.ParsingFacts.{slice_split-text, line_of-line_words, line_words-line_of, line_words-without, length-line_words}
 use Rattle.value_cert.specs.Reading.{ReaderState, NoLineBegins, BeginsNoText, IsPastLine, EndsLine, KeepsPiece, TakesSome, Reads, Refuses, Fails, Keeps, NoLineIs, EndsWith, Finishes, HasRead, AreLinesOf}
-use Rattle.value_cert.specs.Texts.{lines_text}
+use Rattle.value_cert.specs.Texts.{cert_lines, cert_text, lines_text}
 use Rattle.value_cert.specs.declared.line.CertLine.{CertLine}
 use Rattle.value_cert.specs.declared.place.Place.{Place}
 use Rattle.value_cert.specs.declared.place.Place.TheVariants as place
@@ -180,16 +181,16 @@ finishes_fails old new end (Err error) h = h.0
 record Behind (lines whole : List CertLine) (at : Place) (text : List ℕ) : Type 0 where
   rest : List CertLine
   all : whole ≡ lines ++ rest
-  ends : place_from (Some at) rest ≡ Some place.Ended
+  ends : has_ended (place_from (Some at) rest) ≡ true
   spelled : text ≡ lines_text rest
 
 -- each line has one text, so what begins as lines goes on behind them
-behind_lines : (from : Option Place) (lines whole : List CertLine) (at : Place) (text : List ℕ) → place_from from lines ≡ Some at → place_from from whole ≡ Some place.Ended
+behind_lines : (from : Option Place) (lines whole : List CertLine) (at : Place) (text : List ℕ) → place_from from lines ≡ Some at → has_ended (place_from from whole) ≡ true
     → lines_text lines ++ text ≡ lines_text whole → Behind lines whole at text
 behind_lines None lines whole at text h k same = cc
 behind_lines (Some p) [] whole at text h k same =
     let here : p ≡ at = cc in
-    let P : Place → Type 0 = λ q. place_from (Some q) whole ≡ Some place.Ended in
+    let P : Place → Type 0 = λ q. has_ended (place_from (Some q) whole) ≡ true in
     record { rest = whole; all = refl; ends = subst P here k; spelled = same }
 behind_lines (Some p) (x ∷ xs) [] at text h k same =
     absurd (omega (arith, ap length same, length-append (line_text x ++ lines_text xs) text, length-append (line_text x) (lines_text xs), length-append (line_words x) (10 ∷ [])))
@@ -198,17 +199,17 @@ behind_lines (Some p) (x ∷ xs) (w ∷ ws) at text h k same =
     sym (line_text-append x (lines_text xs ++ text)) ∙ sym (append_assoc (line_text x) (lines_text xs) text) ∙ same ∙ line_text-append w (lines_text ws) in
     let both = same_split (line_words x) (lines_text xs ++ text) (line_words w) (lines_text ws) (line_words-without x) (line_words-without w) texts in
     let fits = line_has_numbers (has_numbers x) (next_place p x) xs at h in
-    let wits = line_has_numbers (has_numbers w) (next_place p w) ws place.Ended k in
+    let wits = (stepped (has_numbers w) (next_place p w) ws k).0 in
     let spelled : Some w ≡ Some x = sym (line_of-line_words w wits) ∙ ap line_of (sym both.0) ∙ line_of-line_words x fits in
     let line : w ≡ x = cc spelled in
-    let P : CertLine → Type 0 = λ l. place_from (step_of p l) ws ≡ Some place.Ended in
+    let P : CertLine → Type 0 = λ l. has_ended (place_from (step_of p l) ws) ≡ true in
     let further = behind_lines (step_of p x) xs ws at text h (subst P line k) both.1 in
     let first : w ∷ ws ≡ x ∷ ws = ap (λ (l : CertLine). l ∷ ws) line in
     record { rest = further.rest; all = first ∙ ap (λ (ls : List CertLine). x ∷ ls) further.all; ends = further.ends; spelled = further.spelled }
 
-next_exists : (x : Option Place) (lines : List CertLine) (at : Place) → place_from x lines ≡ Some at → (next : Place) × (x ≡ Some next)
-next_exists None lines at h = cc
-next_exists (Some next) lines at h = (next, refl)
+next_exists : (x : Option Place) (lines : List CertLine) → has_ended (place_from x lines) ≡ true → (next : Place) × (x ≡ Some next)
+next_exists None lines h = absurd (false≢true h)
+next_exists (Some next) lines h = (next, refl)
 
 pub past_not_empty : (front more : List ℕ) → IsPastLine front → front ++ more ≡ [] → ⊥
 past_not_empty front more past same =
@@ -219,17 +220,18 @@ past_not_empty front more past same =
 refuses_text : (old : ReaderState) (piece bytes : List ℕ) (lines : List CertLine) → HasRead old bytes lines → Refuses old piece → BeginsNoText (bytes ++ piece)
 refuses_text old piece bytes lines read refused more whole =
     let front = old.unfinished ++ piece in
-    let text : lines_text lines ++ (front ++ more) ≡ lines_text whole.0 =
+    let text : lines_text lines ++ (front ++ more) ≡ cert_text whole.0 =
     sym (append_assoc (lines_text lines) front more)
     ∙ ap (λ (t : List ℕ). t ++ more) (sym (append_assoc (lines_text lines) old.unfinished piece) ∙ ap (λ (t : List ℕ). t ++ piece) (sym read.text))
     ∙ whole.2 in
-    let behind = behind_lines (Some place.Start) lines whole.0 old.place (front ++ more) read.place whole.1 text in
+    let ends = whole_ends (cert_lines whole.0) (whole.0, whole.1, refl) in
+    let behind = behind_lines (Some place.Start) lines (cert_lines whole.0) old.place (front ++ more) read.place ends text in
     no_rest behind.rest behind.ends behind.spelled
   where
-    no_rest : (rest : List CertLine) → place_from (Some old.place) rest ≡ Some place.Ended → (old.unfinished ++ piece) ++ more ≡ lines_text rest → ⊥
+    no_rest : (rest : List CertLine) → has_ended (place_from (Some old.place) rest) ≡ true → (old.unfinished ++ piece) ++ more ≡ lines_text rest → ⊥
     no_rest [] h same = past_not_empty (old.unfinished ++ piece) more refused.past same
     no_rest (line ∷ rest) h same =
-        let next = next_exists (step_of old.place line) rest place.Ended h in
+        let next = next_exists (step_of old.place line) rest h in
         refused.none line next.0 more (lines_text rest) next.1 same
 
 -- the number of the line behind one more
@@ -289,7 +291,7 @@ has_read_lines reader bytes lines read = record {
   only = λ whole more is_whole same.
       let text : lines_text lines ++ (reader.unfinished ++ more) ≡ lines_text whole =
       sym (append_assoc (lines_text lines) reader.unfinished more) ∙ ap (λ (t : List ℕ). t ++ more) (sym read.text) ∙ same in
-      let behind = behind_lines (Some place.Start) lines whole reader.place (reader.unfinished ++ more) read.place is_whole text in
+      let behind = behind_lines (Some place.Start) lines whole reader.place (reader.unfinished ++ more) read.place (whole_ends whole is_whole) text in
       (behind.rest, behind.all);
 }
 

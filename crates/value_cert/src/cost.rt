@@ -5,18 +5,19 @@ ghost use Rattle.value_cert.specs.Meaning.{Certifies};
 ghost use Rattle.value_cert.specs.PrintedCost.{printed_num, printed_den};
 ghost use Rattle.value_cert.specs.Texts.{HasText};
 
-use crate::certificates::{Cert, LotCert};
+use crate::cert::Cert;
+use crate::lots::LotCert;
 use decision_model::Instance;
 use fraction128::Frac;
 use newsvendor::{NewsCert, Newsvendor};
 
 // The cost of a level, over the sum of the weights.
-fn level_cost(item: &Newsvendor, cert: &NewsCert) -> Frac
+fn level_cost(newsvendor: &Newsvendor, cert: &NewsCert) -> Frac
     requires { cert.now.cost ≤ 2 ^ 120 }
-    ensures num { result.num ≡ lowest_num (pos cert.now.cost) (sum item.now.law) }
-    ensures den { result.den ≡ lowest_den (pos cert.now.cost) (sum item.now.law) }
+    ensures num { result.num ≡ lowest_num (pos cert.now.cost) (sum newsvendor.now.law) }
+    ensures den { result.den ≡ lowest_den (pos cert.now.cost) (sum newsvendor.now.law) }
 {
-    Frac::new(cert.cost as i128, item.law.total())
+    Frac::new(cert.cost as i128, newsvendor.law.total())
 }
 
 // The cost of a plan.
@@ -30,15 +31,15 @@ fn plan_cost(cert: &LotCert) -> Frac
 
 /// The cost that a solve prints of an instance and its certificate, in lowest terms: of a newsvendor the certificate's
 /// cost over the sum of the law's weights, of a lot plan its cost.
-pub fn cost_of(item: &Instance, cert: &Cert) -> Frac
-    requires certified { Certifies item.now cert.now }
+pub fn cost_of(instance: &Instance, cert: &Cert) -> Frac
+    requires certified { Certifies instance.now cert.now }
     requires text { HasText cert.now }
-    ensures num { result.num ≡ printed_num item.now cert.now }
-    ensures den { result.den ≡ printed_den item.now cert.now }
+    ensures num { result.num ≡ printed_num instance.now cert.now }
+    ensures den { result.den ≡ printed_den instance.now cert.now }
 {
-    match (item, cert) {
-        (Instance::News(item), Cert::News(cert)) => level_cost(item, cert),
+    match (instance, cert) {
+        (Instance::News(newsvendor), Cert::News(cert)) => level_cost(newsvendor, cert),
         (Instance::Lots(_), Cert::Lots(cert)) => plan_cost(cert),
-        _ => unreachable!(),
+        _ => Frac::whole(0),
     }
 }

@@ -1,19 +1,22 @@
 // Laws of certificates.
-ghost use Rattle.std.specs.Prelude.{◌≡◌, ℕ, ◌^◌, ◌<◌, ◌≤◌, List, [], ◌++◌, length, sum, Some, IsSome};
+ghost use Rattle.std.specs.Prelude.{◌≡◌, ℕ, ◌^◌, ◌<◌, ◌≤◌, List, [], ◌++◌, length, sum, Some, IsSome, true};
 ghost use Rattle.newsvendor.specs.Item.{NewsvendorItem, IsNewsvendor};
 ghost use Rattle.newsvendor.specs.declared.solve.NewsCert.{NewsCert};
-ghost use Rattle.value_cert.specs.Grammar.{place_after, IsFront, IsWhole};
-ghost use Rattle.value_cert.specs.Meaning.{IsLeastLevelAt};
+ghost use Rattle.value_cert.specs.Grammar.{place_after, has_ended};
+ghost use Rattle.value_cert.specs.Texts.{IsFront, IsWhole};
+ghost use Rattle.value_cert.specs.NewsRules.{IsLeastLevelAt};
 ghost use Rattle.value_cert.specs.Texts.{cert_lines, cert_text, lines_text, HasText};
-ghost use Rattle.value_cert.specs.declared.certificates.Cert.{Cert};
-ghost use Rattle.value_cert.specs.declared.certificates.LotCert.{LotCert};
+ghost use Rattle.value_cert.specs.declared.cert.Cert.{Cert};
+ghost use Rattle.value_cert.specs.declared.lots.LotCert.{LotCert};
 ghost use Rattle.value_cert.specs.declared.line.CertLine.{CertLine};
 ghost use Rattle.value_cert.specs.declared.place.Place.{Place};
 
-/// Lines can be carried on to a whole certificate exactly where there is a place behind them.
+/// Lines begin a certificate exactly where there is a place behind them, and are one exactly where it has ended there.
 pub fn fronts_have_places()
     ensures front { (lines : List CertLine) (at : Place) → place_after lines ≡ Some at → IsFront lines }
     ensures place { (lines : List CertLine) → IsFront lines → IsSome (place_after lines) }
+    ensures ended { (lines : List CertLine) → has_ended (place_after lines) ≡ true → IsWhole lines }
+    ensures whole { (lines : List CertLine) → IsWhole lines → has_ended (place_after lines) ≡ true }
 {}
 
 /// No certificate's text begins another's, and each text is of one certificate.
@@ -22,10 +25,9 @@ pub fn texts_are_apart()
     ensures lines { (a b : List CertLine) (more : List ℕ) → IsWhole a → IsWhole b → lines_text a ++ more ≡ lines_text b → (a ≡ b) × (more ≡ []) }
 {}
 
-/// Each whole list of lines is a certificate's, and of no other.
+/// Lines are those of one certificate at most.
 pub fn lines_tell_certificates()
-    ensures some { (lines : List CertLine) → IsWhole lines → (c : Cert) × HasText c × (cert_lines c ≡ lines) }
-    ensures one { (a b : Cert) → HasText a → HasText b → cert_lines a ≡ cert_lines b → a ≡ b }
+    ensures { (a b : Cert) → HasText a → HasText b → cert_lines a ≡ cert_lines b → a ≡ b }
 {}
 
 /// A least level with its cost has a text, and so has a plan of some orders, one dual price an order and small sums.

@@ -1,4 +1,8 @@
 // The lines of certificates.
+ghost use Rattle.std.specs.Prelude.{◌≡◌, pos, IsTrue};
+ghost use Rattle.value_cert.specs.Grammar.{has_numbers};
+ghost use Rattle.value_cert.specs.Tags.{tag_of};
+
 use decision_model::Kind;
 
 /// A line of a certificate, with its numbers as they are written.
@@ -28,4 +32,65 @@ pub enum CertLine {
     Part(i128, i128),
     /// The end.
     End,
+}
+
+/// What a line tells, its numbers aside.
+#[derive(Clone, Copy, Debug, PartialEq, Eq)]
+pub enum Tag {
+    Head,
+    Level,
+    Order,
+    Cost,
+    Period,
+    Value,
+    Gain,
+    Pair,
+    Point,
+    Echelon,
+    Part,
+    End,
+}
+
+impl CertLine {
+    /// What the line tells.
+    pub fn tag(&self) -> Tag
+        ensures { result ≡ tag_of self.now }
+    {
+        match *self {
+            CertLine::Head(_, _, _) => Tag::Head,
+            CertLine::Level(_) => Tag::Level,
+            CertLine::Order(_, _) => Tag::Order,
+            CertLine::Cost(_) => Tag::Cost,
+            CertLine::Period(_) => Tag::Period,
+            CertLine::Value(_, _, _) => Tag::Value,
+            CertLine::Gain(_, _) => Tag::Gain,
+            CertLine::Pair(_, _) => Tag::Pair,
+            CertLine::Point(_, _, _) => Tag::Point,
+            CertLine::Echelon(_, _) => Tag::Echelon,
+            CertLine::Part(_, _) => Tag::Part,
+            CertLine::End => Tag::End,
+        }
+    }
+}
+
+/// The head of a kind with its discount.
+pub(crate) fn head_line(kind: Kind, num: u32, den: u32) -> CertLine
+    ensures { result ≡ CertLine.Head kind (pos num) (pos den) }
+{
+    CertLine::Head(kind, i128::from(num), i128::from(den))
+}
+
+/// The line of a cost.
+pub(crate) fn cost_line(cost: u128) -> CertLine
+    requires { IsTrue (has_numbers (CertLine.Cost (pos cost))) }
+    ensures { result ≡ CertLine.Cost (pos cost) }
+{
+    CertLine::Cost(cost as i128)
+}
+
+/// The line of a period.
+pub(crate) fn period_line(period: u32) -> CertLine
+    ensures { result ≡ CertLine.Period (pos period) }
+{
+    CertLine::Period(i128::from(period))
 }

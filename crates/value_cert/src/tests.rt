@@ -3,9 +3,8 @@ ghost use Rattle.std.specs.Prelude.{IfOk};
 ghost use Rattle.value_cert.specs.Texts.{HasText};
 
 use crate::{
-    AverageCell, AverageCells, AverageCert, Cert, FiniteCell, FiniteCells, FiniteCert, FiniteRow,
-    FiniteRows, LotCert, SerialCell, SerialCells, SerialCert, SerialPeriod, SerialPeriods,
-    SerialRow, SerialRows, cost_of, write_cert,
+    AverageCell, AverageCert, Cert, FiniteCell, FiniteCert, FiniteRow, Items, LotCert, SerialCell,
+    SerialCert, SerialPeriod, SerialRow, cost_of, write_cert,
 };
 use decision_model::{Amounts, Instance};
 use demand_law::Law;
@@ -55,13 +54,13 @@ fn finite(alloc: Global) -> Result<Cert, AllocError>
     }];
     let last = FiniteRow {
         period: 2,
-        cells: FiniteCells::new(last.to_vec(alloc)?),
+        cells: Items::new(last.to_vec(alloc)?),
     };
     let first = FiniteRow {
         period: 1,
-        cells: FiniteCells::new(first.to_vec(alloc)?),
+        cells: Items::new(first.to_vec(alloc)?),
     };
-    let rows = FiniteRows::new(vec![in alloc; last, first]?);
+    let rows = Items::new(vec![in alloc; last, first]?);
     Ok(Cert::Finite(FiniteCert {
         discount_num: 1,
         discount_den: 2,
@@ -89,7 +88,7 @@ fn average(alloc: Global) -> Result<Cert, AllocError>
         den: 1,
         low: 0,
         high: 1,
-        cells: AverageCells::new(cells.to_vec(alloc)?),
+        cells: Items::new(cells.to_vec(alloc)?),
     }))
 }
 
@@ -104,21 +103,21 @@ fn serial(alloc: Global) -> Result<Cert, AllocError>
     let first = SerialRow {
         echelon: 1,
         level: 2,
-        cells: SerialCells::new(first.to_vec(alloc)?),
+        cells: Items::new(first.to_vec(alloc)?),
     };
     let second = SerialRow {
         echelon: 2,
         level: -1,
-        cells: SerialCells::new(second.to_vec(alloc)?),
+        cells: Items::new(second.to_vec(alloc)?),
     };
     let period = SerialPeriod {
         period: 1,
-        rows: SerialRows::new(vec![in alloc; first, second]?),
+        rows: Items::new(vec![in alloc; first, second]?),
     };
     Ok(Cert::Serial(SerialCert {
         discount_num: 1,
         discount_den: 1,
-        periods: SerialPeriods::new(vec![in alloc; period]?),
+        periods: Items::new(vec![in alloc; period]?),
     }))
 }
 
@@ -149,6 +148,38 @@ fn writes_each_kind(rt: HostRuntime) -> Result<(), Fail> {
     assert!(rt; writes(alloc, &average(alloc)?, text)?);
     let text = "certificate 1 serial\nt 1\ne 1 2\nf 0 14\nf 1 6\ne 2 -1\nf -1 -10\nend\n";
     assert!(rt; writes(alloc, &serial(alloc)?, text)?);
+    Ok(())
+}
+
+// A certificate whose 60 lines of 82 bytes are more than one piece.
+fn long(alloc: Global) -> Result<Cert, AllocError>
+    ensures { IfOk result HasText }
+{
+    let cells = [FiniteCell {
+        at: i64::MIN,
+        to: i64::MIN,
+        value: 1 << 120,
+    }; 60];
+    let row = FiniteRow {
+        period: 1,
+        cells: Items::new(cells.to_vec(alloc)?),
+    };
+    Ok(Cert::Finite(FiniteCert {
+        discount_num: 1,
+        discount_den: 1,
+        rows: Items::new(vec![in alloc; row]?),
+    }))
+}
+
+#[test]
+fn writes_pieces_of_whole_lines(rt: HostRuntime) -> Result<(), Fail> {
+    let cert = long(rt.alloc())?;
+    let mut sink = MemSink::new(rt.alloc(), 4096, &[2], 10_000)?;
+    assert_eq!(rt; write_cert(&cert, &mut sink), Err(Failed));
+    assert_eq!(rt; sink.bytes().len(), 21 + 4 + 49 * 82);
+    let mut sink = MemSink::new(rt.alloc(), 4096, &[3], 10_000)?;
+    assert_eq!(rt; write_cert(&cert, &mut sink), Ok(()));
+    assert_eq!(rt; sink.bytes().len(), 21 + 4 + 60 * 82 + 4);
     Ok(())
 }
 

@@ -1,12 +1,14 @@
 // The line that bytes spell.
-ghost use Rattle.std.specs.Prelude.{◌≡◌, ◌++◌, [], ◌∷◌, MatchOption};
+ghost use Rattle.std.specs.Prelude.{◌≡◌, ◌++◌, [], ◌∷◌, MatchOption, find};
 ghost use Rattle.std.specs.List.{slice_split};
 ghost use Rattle.std.specs.Str.{bytes_eq};
+ghost use Rattle.decision_model.specs.Kind.{kind_word};
 ghost use Rattle.value_cert.specs.Parsing.{word_number, word_kind, plain_head, discount_head, two_numbers, words_line, line_of};
 ghost use Rattle.value_cert.specs.LineWords.{IsWithout, is_blank, is_plain};
 
+use crate::kinds::has_certificates;
 use crate::line::CertLine;
-use crate::place::{is_unit_fraction, is_whole_number};
+use crate::numbers::{is_unit_fraction, is_whole_number};
 use decision_model::Kind;
 use std::str;
 
@@ -66,20 +68,26 @@ pub fn parse_number(word: &[u8]) -> Option<i128>
     }
 }
 
-// The kind that a word names.
+// The first of some kinds that a word names.
+fn first_named(kinds: &[Kind], word: &[u8]) -> Option<Kind>
+    ensures { result ≡ find (λ kind. bytes_eq (kind_word kind) word.now) kinds.now }
+{
+    for kind in kinds {
+        if kind.word().as_bytes() == word {
+            return Some(*kind);
+        }
+    }
+    None
+}
+
+// The kind with certificates that a word names.
+#[tactic(auto, unfolding(crate::specs::Parsing::word_kind))]
 fn kind_of(word: &[u8]) -> Option<Kind>
     ensures { result ≡ word_kind word.now }
 {
-    if is_word(word, "newsvendor") {
-        Some(Kind::News)
-    } else if is_word(word, "lots") {
-        Some(Kind::Lots)
-    } else if is_word(word, "finite") {
-        Some(Kind::Finite)
-    } else if is_word(word, "average") {
-        Some(Kind::Average)
-    } else if is_word(word, "serial") {
-        Some(Kind::Serial)
+    let kind = first_named(&Kind::ALL, word)?;
+    if has_certificates(kind) {
+        Some(kind)
     } else {
         None
     }

@@ -2,13 +2,13 @@
 use Rattle.std.proofs.Common.{◌≡◌, ℕ, zero, suc, ◌+◌, ◌-◌, ◌*◌, ◌<◌, ◌≤◌, List, length, slice_index, ◌∙◌, ap, arith, ◌⊎◌, inl, inr}
 use Rattle.std.proofs.lemmas.Bool.{cases_lt}
 use Rattle.std.proofs.lemmas.Nat.{mul-le}
-use Rattle.decision_model.specs.declared.instance.LotSize.{LotSize}
+use Rattle.decision_model.specs.declared.lots.LotSize.{LotSize}
 use Rattle.decision_model.specs.Lots.{IsReadableLots, IsValidLots}
 use Rattle.value_cert.specs.LotRecursion.{cost_by, least_costs, least_cost, last_order}
-use Rattle.value_cert.specs.LotSums.{sum_from-first}
-use Rattle.value_cert.specs.LotRecursionFacts.{cost_before, cost_by-is, IsLatestLeast, is_latest_least, least_costs-at, length-least_costs}
-use Rattle.value_cert.specs.LotServing.{served, held, serving-parts, held-first}
-use Rattle.value_cert.specs.LotSolved.{least_bound}
+use Rattle.lot_lemmas.specs.LotSums.{sum_from-first}
+use Rattle.lot_lemmas.specs.LotRecursionFacts.{cost_before, cost_by-is, IsLatestLeast, is_latest_least, least_costs-at, length-least_costs}
+use Rattle.lot_lemmas.specs.LotServing.{served, held, serving-parts, held-first}
+use Rattle.lot_lemmas.specs.LotSolved.{least_bound}
 
 -- the demand from a period on to another, and what holding it costs
 pub record IsStretch (item : LotSize) (period start units holding : ℕ) : Type 0 where

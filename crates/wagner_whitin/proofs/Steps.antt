@@ -5,15 +5,15 @@ use Rattle.std.proofs.lemmas.Bool.{cases_lt, ne_eqb}
 use Rattle.std.proofs.lemmas.List.{append-nil, append_assoc, get_or_append_left, get_or_push, get_or-replicate, get_or-set_other, length-set, drop-set, length_push, length-replicate, drop_all}
 use Rattle.std.proofs.lemmas.List.Sums.{sum_by-take-le}
 use Rattle.std.proofs.lemmas.List.FromFn.{map-range_with_len_more, length-map-range_with_len, get_or-map-range_with_len, fill_by_all}
-use Rattle.decision_model.specs.declared.instance.LotSize.{LotSize}
+use Rattle.decision_model.specs.declared.lots.LotSize.{LotSize}
 use Rattle.decision_model.specs.Lots.{IsValidLots}
 use Rattle.value_cert.specs.LotRecursion.{next_cost, least_costs, least_cost, last_order, one_order, least_plan, added_cost, solved_lots}
 use Rattle.wagner_whitin.specs.LastOrders.{HasLastOrders}
-use Rattle.value_cert.specs.LotHorizons.{last_so_far, last_so_far-none, never_back, least_mono}
-use Rattle.value_cert.specs.LotRecursionFacts.{costs_of, is_recursion, length-least_costs, least_costs-at}
-use Rattle.value_cert.specs.LotPlanFacts.{least_plan-none, least_plan-idle, least_plan-ordered}
-use Rattle.value_cert.specs.LotServing.{stretch-after}
-use Rattle.value_cert.specs.LotSolved.{duals_of, total_bound}
+use Rattle.lot_lemmas.specs.LotHorizons.{last_so_far, last_so_far-none, never_back, least_mono}
+use Rattle.lot_lemmas.specs.LotRecursionFacts.{costs_of, is_recursion, length-least_costs, least_costs-at}
+use Rattle.lot_lemmas.specs.LotPlanFacts.{least_plan-none, least_plan-idle, least_plan-ordered}
+use Rattle.lot_lemmas.specs.LotServing.{stretch-after}
+use Rattle.lot_lemmas.specs.LotSolved.{duals_of, total_bound}
 
 -- ---- differences
 abbrev pub difference : List ℕ → ℕ → ℕ

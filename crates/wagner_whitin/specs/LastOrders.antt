@@ -1,6 +1,6 @@
 -- The last order periods of an instance, as the plan is read back from them.
 use Rattle.std.specs.Prelude.{◌≡◌, ℕ, ◌<◌, ◌≢◌, List, length, slice_index}
-use Rattle.decision_model.specs.declared.instance.LotSize.{LotSize}
+use Rattle.decision_model.specs.declared.lots.LotSize.{LotSize}
 use Rattle.value_cert.specs.LotRecursion.{last_order}
 
 -- one entry a period, which is its last order period where it has demand

@@ -31,17 +31,17 @@ fn are_within(amounts: &[u64], periods: usize, greatest: u64) -> bool
     amounts.iter().all(|amount| *amount <= greatest)
 }
 
-fn is_readable(item: &LotSize) -> bool
-    ensures { IsTrue result → IsReadableLots item.now }
+fn is_readable(lots: &LotSize) -> bool
+    ensures { IsTrue result → IsReadableLots lots.now }
 {
-    let periods = item.demand.as_slice().len();
+    let periods = lots.demand.as_slice().len();
     if periods < 1 || periods > 2000 {
         return false;
     }
-    let demand = are_within(item.demand.as_slice(), periods, 1_000_000);
-    let setup = are_within(item.setup.as_slice(), periods, 1_000_000_000_000);
-    let unit = are_within(item.unit.as_slice(), periods, 1_000_000);
-    let holding = are_within(item.holding.as_slice(), periods, 1_000_000);
+    let demand = are_within(lots.demand.as_slice(), periods, 1_000_000);
+    let setup = are_within(lots.setup.as_slice(), periods, 1_000_000_000_000);
+    let unit = are_within(lots.unit.as_slice(), periods, 1_000_000);
+    let holding = are_within(lots.holding.as_slice(), periods, 1_000_000);
     demand && setup && unit && holding
 }
 
@@ -130,10 +130,10 @@ fn least_plans(rt: HostRuntime) -> Result<(), Fail> {
         },
     ];
     for row in &rows {
-        let item = lot_size(rt.alloc(), row)?;
-        assert!(rt; is_readable(&item));
-        assert!(rt; speculative_period(&item).is_none());
-        let cert = solve_lots(rt.alloc(), &item)?;
+        let lots = lot_size(rt.alloc(), row)?;
+        assert!(rt; is_readable(&lots));
+        assert!(rt; speculative_period(&lots).is_none());
+        let cert = solve_lots(rt.alloc(), &lots)?;
         assert_eq!(rt; cert.orders.as_slice(), row.orders);
         assert_eq!(rt; cert.duals.as_slice(), row.duals);
         assert_eq!(rt; cert.cost, row.cost);

@@ -1,19 +1,18 @@
 // Laws that were worked by hand, as they are printed.
-ghost use Rattle.std.specs.Prelude.{◌≡◌, ◌≢◌, ◌≤◌, ◌-◌, ℕ, pos, ◌≤ℤ◌, All, IfOk, length, slice_index_or};
+ghost use Rattle.std.specs.Prelude.{◌≡◌, ◌≤◌, ◌-◌, ℕ, pos, ◌≤ℤ◌, All, IfOk, length, slice_index_or, true};
 ghost use Rattle.std.specs.List.{AllAdjacentBelow};
 ghost use Rattle.decision_model.specs.Average.{IsReadableAverage};
 ghost use Rattle.decision_model.specs.DemandLaws.{IsDemandLaw, AreDemandLaws};
 ghost use Rattle.decision_model.specs.Finite.{IsReadableFinite};
-ghost use Rattle.decision_model.specs.Kind.{kind_of};
 ghost use Rattle.decision_model.specs.Positions.{IsPosition};
 ghost use Rattle.decision_model.specs.Rates.{IsRate};
 ghost use Rattle.decision_model.specs.Serial.{IsReadableSerial};
 ghost use Rattle.decision_model.specs.Valid.{IsValid};
+ghost use Rattle.report_text.specs.Demand.{has_laws};
 
 use crate::demand_text;
 use decision_model::{
-    Amounts, Average, Finite, Instance, Kind, Laws, Positions, Serial, grid_fits, has_demand,
-    width_ok,
+    Amounts, Average, Finite, Instance, Laws, Positions, Serial, grid_fits, has_demand, width_ok,
 };
 use demand_law::Law;
 use newsvendor::Newsvendor;
@@ -40,7 +39,7 @@ fn one_law(alloc: Global, points: &[(u32, u32)]) -> Result<Laws, Fail>
 
 fn prints(rt: &impl Abort, alloc: Global, item: &Instance, lines: &str) -> Result<(), Fail>
     requires valid { IsValid item.now }
-    requires not_lots { kind_of item.now ≢ Kind.Lots }
+    requires has_laws { has_laws item.now ≡ true }
 {
     let text = demand_text(alloc, item)?;
     assert_eq!(rt; text.bytes(), lines.as_bytes());

@@ -5,7 +5,7 @@ use Rattle.cert_check.proofs.lots.cost_of_serving.Goals as goal
 pub overflow_add-result : goal.overflow_add-result
 overflow_add-result c =
     let readable = c.requires.readable in
-    let item = c.args.item.now in
+    let item = c.args.lots.now in
     let unit = unit_small item readable c.args.start (omega arith) in
     let held = holding_between_small item readable c.args.start c.args.period in
     rw c.as_slice-2.ensures (omega (arith, unit, held))
@@ -13,7 +13,7 @@ overflow_add-result c =
 pub overflow_mul-result : goal.overflow_mul-result
 overflow_mul-result c =
     let readable = c.requires.readable in
-    let item = c.args.item.now in
+    let item = c.args.lots.now in
     let demand = demand_small item readable c.args.period c.requires.period in
     let unit = unit_small item readable c.args.start (omega arith) in
     let held : c.args.held ≤ 2000000000 = omega (arith, holding_between_small item readable c.args.start c.args.period) in

@@ -5,5 +5,5 @@ use Rattle.cert_check.proofs.news.broken_by_level.Goals as goal
 
 pub returns-clause-in_range : goal.returns-clause-in_range
 returns-clause-in_range c = λ none.
-    let first : is_first_level c.args.item.now c.args.level ≡ true = search rules in
-    first_within c.args.item.now c.args.level c.has_ratio.ensures.short c.requires first
+    let first : is_first_level c.args.newsvendor.now c.args.level ≡ true = search rules in
+    first_within c.args.newsvendor.now c.args.level c.has_ratio.ensures.short c.requires first

@@ -1,7 +1,8 @@
 use Rattle.std.proofs.Common.{◌≡◌, map, drop}
 use Rattle.std.specs.List.{list_any}
 use Rattle.std.specs.Str.{bytes_eq}
+use Rattle.instance_json.specs.Keys.{row_of}
 use Rattle.instance_json.proofs.keys.is_named.Given as goal
 
-abbrev pub invariant-loop-known : goal.invariant-loop-known
-invariant-loop-known l = list_any (λ n. bytes_eq n l.name) (map (λ n. n.now) l.names) ≡ list_any (λ n. bytes_eq n l.name) (map (λ n. n.now) (drop l.known-index l.names))
+abbrev pub invariant-loop-row : goal.invariant-loop-row
+invariant-loop-row l = list_any (λ row. bytes_eq row.1 l.name) (map row_of l.rows) ≡ list_any (λ row. bytes_eq row.1 l.name) (map row_of (drop l.row-index l.rows))

@@ -1,10 +1,10 @@
 use Rattle.std.proofs.Common.{rules}
 use Rattle.instance_json.specs.Rules.{rules_of}
-use Rattle.instance_json.proofs.Validity.{IsRegular-by_rules, IsValid-by_width}
+use Rattle.instance_json.proofs.ProvenKinds.{proven}
 use Rattle.instance_json.proofs.rules.rules.Goals as goal
 
 pub width_ok-requires : goal.width_ok-requires
-width_ok-requires c = IsRegular-by_rules _ c.requires c.in_ok-kind_rules.ensures.meaning (c.grid_fits.ensures.meaning.0 c.if-not-grid_fits.false)
+width_ok-requires c = (proven _).regular c.requires c.in_ok-kind_rules.ensures.meaning (c.grid_fits.ensures.meaning.0 c.if-not-grid_fits.false)
 
 pub returns-in_err-kind_rules-clause-value : goal.returns-in_err-kind_rules-clause-value
 unfolding rules_of
@@ -24,5 +24,5 @@ returns-clause-value c = search rules
 
 pub returns-clause-valid : goal.returns-clause-valid
 returns-clause-valid c =
-    IsValid-by_width _ (IsRegular-by_rules _ c.requires c.in_ok-kind_rules.ensures.meaning (c.grid_fits.ensures.meaning.0 c.if-not-grid_fits.false))
+    (proven _).valid ((proven _).regular c.requires c.in_ok-kind_rules.ensures.meaning (c.grid_fits.ensures.meaning.0 c.if-not-grid_fits.false))
     (c.width_ok.ensures.meaning.0 c.if-not-width_ok.false)

@@ -3,12 +3,12 @@ use Rattle.std.specs.List.{list_all}
 use Rattle.decision_model.specs.declared.kinds.Kind.TheVariants as kind
 use Rattle.value_cert.proofs.Writing.{numbers_front, numbers_rest}
 use Rattle.value_cert.specs.Grammar.{has_numbers}
-use Rattle.value_cert.specs.GrammarFacts.{whole_has_numbers}
 use Rattle.value_cert.specs.NumberFacts.{both, small_from_natural}
-use Rattle.value_cert.specs.Texts.{order_lines, cert_lines}
-use Rattle.value_cert.specs.declared.certificates.LotCert.{LotCert}
-use Rattle.value_cert.specs.declared.certificates.Cert.{Cert}
-use Rattle.value_cert.specs.declared.certificates.Cert.TheVariants as cert
+use Rattle.value_cert.specs.Texts.{cert_lines}
+use Rattle.value_cert.specs.Lots.{order_lines}
+use Rattle.value_cert.specs.declared.lots.LotCert.{LotCert}
+use Rattle.value_cert.specs.declared.cert.Cert.{Cert}
+use Rattle.value_cert.specs.declared.cert.Cert.TheVariants as cert
 use Rattle.value_cert.specs.declared.line.CertLine.TheVariants.{Head, Cost, End}
 use Rattle.value_cert.proofs.cost.cost_of.Goals as goal
 
@@ -25,4 +25,4 @@ small_cost c h =
 pub plan_cost-requires : goal.plan_cost-requires
 plan_cost-requires c =
     let P : Cert → Type 0 = λ told. IsTrue (list_all has_numbers (cert_lines told)) in
-    small_cost c.in-Lots-Lots.cert (subst P c.in-Lots-Lots.is-1 (whole_has_numbers (cert_lines c.args.cert.now) c.requires.text.whole))
+    small_cost c.in-Lots-Lots.cert (subst P c.in-Lots-Lots.is-1 c.requires.text.numbers)

@@ -1,5 +1,4 @@
-use Rattle.value_cert.specs.CertFacts.{certs_apart}
-use Rattle.value_cert.specs.TextFacts.{texts_apart}
+use Rattle.value_cert.specs.TextFacts.{texts_apart, certs_apart}
 use Rattle.value_cert.proofs.laws.texts_are_apart.Goals as goal
 
 pub returns-clause-certs : goal.returns-clause-certs

@@ -1,6 +1,5 @@
-use Rattle.value_cert.specs.GrammarFacts.{whole_has_numbers}
-use Rattle.value_cert.specs.Texts.{cert_lines}
+use Rattle.value_cert.proofs.Writing.{flushed_prefix}
 use Rattle.value_cert.proofs.write.write_cert.Goals as goal
 
-pub write_kind-requires-clause-numbers : goal.write_kind-requires-clause-numbers
-write_kind-requires-clause-numbers g c = whole_has_numbers (cert_lines c.args.cert.now) c.requires.whole
+pub returns-clause-prefix : goal.returns-clause-prefix
+returns-clause-prefix g c = flushed_prefix _ _ _ _ _ c.new-piece.ensures c.in_ok-write_lines.ensures.whole c.flush.ensures.whole c.flush.ensures.prefix

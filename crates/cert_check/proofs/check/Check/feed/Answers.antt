@@ -12,6 +12,7 @@ pub returns-clause-stands : goal.returns-clause-stands
 returns-clause-stands c = λ item lines stands.
     let passing = unrejected item c.args.self.now lines stands (sym c.is_rejected.ensures ∙ c.if-is_rejected.false) in
     record {
+      valid = stands.valid;
       verdict = c.test-verdict.ensures.answer item lines passing;
       passing = λ none. let known = c.test-verdict.ensures.passing item lines passing none in record { unbroken = known.unbroken; place = known.place; number = known.number; kind = known.kind };
     }

@@ -1,7 +1,7 @@
 use Rattle.std.proofs.Common.{◌≡◌, sym, ap, ◌∙◌, ⊎_elim}
 use Rattle.cert_check.specs.declared.verdicts.Verdict.TheVariants.{Going, Accepted, Rejected}
 use Rattle.cert_check.specs.Verdicts.{verdict_of}
-use Rattle.cert_check.proofs.Own.{own_passes}
+use Rattle.cert_check.proofs.Texts.{own_passes}
 use Rattle.cert_check.proofs.TextChecks.{going_ends, others_end, accepted_certified}
 use Rattle.cert_check.proofs.text_check.TextCheck.end.Goals as goal
 

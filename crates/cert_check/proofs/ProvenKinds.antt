@@ -1,0 +1,44 @@
+-- What acceptance means, and what is sure to be accepted: the one dispatch over kinds.
+use Rattle.std.proofs.Common.{◌≡◌, Some, subst}
+use Rattle.decision_model.specs.Valid.{IsValid}
+use Rattle.decision_model.specs.declared.instance.Instance.{Instance}
+use Rattle.decision_model.specs.declared.instance.Instance.TheVariants as instance
+use Rattle.lot_lemmas.specs.LotSolved.{has_text}
+use Rattle.value_cert.specs.LotRecursion.{solved_lots}
+use Rattle.value_cert.specs.Meaning.{Certifies, solved_cert}
+use Rattle.value_cert.specs.NewsRules.{solved_news}
+use Rattle.value_cert.specs.Standard.{unbuilt_rules}
+use Rattle.value_cert.specs.Standards.{rules_of}
+use Rattle.value_cert.specs.Texts.{cert_lines, HasText}
+use Rattle.value_cert.specs.declared.cert.Cert.{Cert}
+use Rattle.value_cert.specs.declared.cert.Cert.TheVariants as cert
+use Rattle.cert_check.specs.Meaning.{IsTyped}
+use Rattle.cert_check.proofs.Kept.{Keeps}
+use Rattle.cert_check.proofs.ProvenLots.{lots_certifies, solved_lots_keeps}
+use Rattle.cert_check.proofs.ProvenNews.{news_certifies, solved_news_keeps, solved_news_text}
+
+-- no certificate keeps the rules of a kind whose solver isn't built
+none_kept : (c : Cert) → Keeps unbuilt_rules tt (cert_lines c) → ⊥
+none_kept c kept = let broken = kept.0 in cc
+
+-- a certificate whose lines break no rule names a policy than which none costs less, and its cost
+pub certifies_by : (item : Instance) (c : Cert) → IsValid item → HasText c → Keeps (rules_of item) (rules_of item).nothing (cert_lines c) → Certifies item c
+certifies_by (instance.News item) c valid has kept = news_certifies item c kept
+certifies_by (instance.Lots item) c valid has kept = lots_certifies item c valid.readable has kept
+certifies_by _ c valid has kept = absurd (none_kept c kept)
+
+-- the solver's certificate has a text, and its lines break no rule
+pub record IsKept (item : Instance) (c : Cert) : Type 0 where
+  pub has : HasText c
+  pub keeps : Keeps (rules_of item) (rules_of item).nothing (cert_lines c)
+
+pub solved_is_kept : (item : Instance) (c : Cert) → IsValid item → IsTyped item → solved_cert item ≡ Some c → IsKept item c
+solved_is_kept (instance.News item) c valid typed solved =
+    let same : cert.News (solved_news item) ≡ c = cc in
+    let P : Cert → Type 0 = λ own. IsKept (instance.News item) own in
+    subst P same (record { has = solved_news_text item typed; keeps = solved_news_keeps item })
+solved_is_kept (instance.Lots item) c valid typed solved =
+    let same : cert.Lots (solved_lots item) ≡ c = cc in
+    let P : Cert → Type 0 = λ own. IsKept (instance.Lots item) own in
+    subst P same (record { has = has_text item valid; keeps = solved_lots_keeps item valid })
+solved_is_kept _ c valid typed solved = cc

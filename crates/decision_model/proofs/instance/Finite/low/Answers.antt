@@ -1,8 +1,0 @@
-use Rattle.std.proofs.Common.{◌+◌, arith}
-use Rattle.decision_model.specs.LawFacts.{greatest_in_range}
-use Rattle.decision_model.proofs.instance.Finite.low.Goals as goal
-
-pub low_after-requires-clause-greatest : goal.low_after-requires-clause-greatest
-low_after-requires-clause-greatest c =
-    let item = c.args.self.now in
-    omega (arith, c.greatest.ensures, greatest_in_range item.laws (item.periods + item.lead) c.requires.readable.laws)

@@ -1,8 +1,0 @@
-use Rattle.std.proofs.Common.{◌+◌, arith}
-use Rattle.decision_model.specs.LawFacts.{greatest_in_range}
-use Rattle.decision_model.proofs.width.finite_cost_bound.Goals as goal
-
-pub most_lacking-lacking-requires-clause-greatest : goal.most_lacking-lacking-requires-clause-greatest
-most_lacking-lacking-requires-clause-greatest c =
-    let item = c.args.item.now in
-    omega (arith, c.greatest.ensures, greatest_in_range item.laws (item.periods + item.lead) c.requires.laws)

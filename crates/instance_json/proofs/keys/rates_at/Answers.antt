@@ -1,6 +1,0 @@
-use Rattle.instance_json.specs.Numbers.{rates_in}
-use Rattle.instance_json.proofs.Told.{gives_required}
-use Rattle.instance_json.proofs.keys.rates_at.Goals as goal
-
-pub returns-in-Err-clause-value : goal.returns-in-Err-clause-value
-returns-in-Err-clause-value c = gives_required (rates_in c.args.most c.args.places) _ _ _ _ _ c.in-Some.ensures c.in-Err.ensures.value c.told_err.ensures

@@ -1,0 +1,9 @@
+pub mod LotSums
+pub mod LotShares
+pub mod LotDuality
+pub mod LotTexts
+pub mod LotHorizons
+pub mod LotRecursionFacts
+pub mod LotServing
+pub mod LotPlanFacts
+pub mod LotSolved

@@ -1,5 +1,0 @@
-use Rattle.decision_model.specs.LeadTimes.{finite_lead_time}
-use Rattle.report_text.proofs.demand.push_finite.Goals as goal
-
-pub push_periods-requires-clause-have_sums : goal.push_periods-requires-clause-have_sums
-push_periods-requires-clause-have_sums c = rw c.as_slice.ensures (λ place lt. finite_lead_time c.args.item.now place c.requires lt)

@@ -1,0 +1,61 @@
+use Rattle.std.proofs.Common.{◌≡◌, ℕ, List, Result, Ok, IfSome, ap, inl, inr, refl, sym, ◌∙◌, subst}
+use Rattle.std.proofs.lemmas.Result.{IfOk-weaker, IfErr-weaker}
+use Rattle.decision_model.specs.declared.instance.Instance.{Instance}
+use Rattle.value_cert.specs.Meaning.{solved_cert}
+use Rattle.stock_cli.specs.Causes.{ComparesInput, counts_of, FailedAt, IsRefused, IsUnread}
+use Rattle.stock_cli.specs.Inputs.{Content, content_of, origin_of}
+use Rattle.report_text.specs.declared.faults.Fault.{Fault}
+use Rattle.stock_cli.specs.Outcome.{Ending, Output, check_ending, output_of}
+use Rattle.stock_cli.specs.Solvers.{IsBuilt}
+use Rattle.stock_cli.proofs.Endings.{compare_claims, failed_later, is_standard, refuses_said, same_content, stands_said, tells_said}
+use Rattle.stock_cli.proofs.commands.compare.Goals as goal
+
+pub returns-in_err-instance-clause-spared_files : goal.returns-in_err-instance-clause-spared_files
+returns-in_err-instance-clause-spared_files g c = λ spares. c.in_err-instance.ensures.same_files (is_standard _ (λ name e. spares.none name (inl e)))
+
+pub returns-clause-spared_files : goal.returns-clause-spared_files
+returns-clause-spared_files g c = λ spares.
+    c.check.ensures.spared_files (λ name e built. spares.none name (inr (sym e, stands_said _ _ c.in_ok-instance.ensures.said built)))
+    ∙ c.in_ok-instance.ensures.same_files (is_standard _ (λ name e. spares.none name (inl e)))
+
+pub returns-clause-claims : goal.returns-clause-claims
+returns-clause-claims g c =
+    let same = same_content (g.I.Source.left c.args.input.now) (g.I.Source.left c.read_from.new.input) (g.F.Files.held c.args.files.now) (g.F.Files.held c.read_from.new.files) (origin_of c.args.cert.now)
+    (λ none. ap g.I.Source.left (c.in_ok-instance.ensures.same_input (λ first. c.requires first none))) c.in_ok-instance.ensures.same_held in
+    IfOk-weaker c.check.result _ _ (λ answer claimed done. compare_claims _ _ _ c.in_ok-instance.instance c.in_ok-instance.ensures.said same (claimed done)) c.check.ensures.claims
+
+pub returns-clause-refused : goal.returns-clause-refused
+returns-clause-refused g c =
+    let instance : Instance = c.in_ok-instance.instance in
+    let from = origin_of c.args.from.now in
+    let input = origin_of c.args.cert.now in
+    let content : Content = content_of (g.I.Source.left c.args.input.now) (g.F.Files.held c.args.files.now) from in
+    let cert : Content = content_of (g.I.Source.left c.args.input.now) (g.F.Files.held c.args.files.now) input in
+    let answer : Instance → Ending = λ i. check_ending cert i (solved_cert i) in
+    let later : List ℕ → Type 0 = λ name. IsBuilt instance × FailedAt (counts_of (g.I.Source.faults c.read_from.new.input) (g.I.Source.faults c.check.new.input) (g.F.Files.faults c.read_from.new.files) (g.F.Files.faults c.check.new.files)) input name in
+    let all : List ℕ → Type 0 = IsUnread (counts_of (g.I.Source.faults c.args.input.now) (g.I.Source.faults c.check.new.input) (g.F.Files.faults c.args.files.now) (g.F.Files.faults c.check.new.files)) (ComparesInput content from input) in
+    let same = same_content (g.I.Source.left c.args.input.now) (g.I.Source.left c.read_from.new.input) (g.F.Files.held c.args.files.now) (g.F.Files.held c.read_from.new.files) input
+    (λ none. ap g.I.Source.left (c.in_ok-instance.ensures.same_input (λ first. c.requires first none))) c.in_ok-instance.ensures.same_held in
+    IfErr-weaker c.check.result _ _ (λ f h.
+    let P : Content → Type 0 = λ found. IsRefused later (check_ending found instance (solved_cert instance)) f in
+    refuses_said later all answer _ instance f
+    (λ name failed. record {
+      input = input;
+      read = inr (refl, stands_said _ _ c.in_ok-instance.ensures.said failed.0);
+      failed = failed_later _ _ _ _ _ _ input name c.in_ok-instance.ensures.later_input c.in_ok-instance.ensures.later_files failed.1;
+    })
+    c.in_ok-instance.ensures.said (subst P same h)) c.check.ensures.refused
+
+pub returns-clause-ok : goal.returns-clause-ok
+returns-clause-ok g c =
+    let instance : Instance = c.in_ok-instance.instance in
+    let input = origin_of c.args.cert.now in
+    let content : Content = content_of (g.I.Source.left c.args.input.now) (g.F.Files.held c.args.files.now) (origin_of c.args.from.now) in
+    let cert : Content = content_of (g.I.Source.left c.args.input.now) (g.F.Files.held c.args.files.now) input in
+    let answer : Instance → Ending = λ i. check_ending cert i (solved_cert i) in
+    let same = same_content (g.I.Source.left c.args.input.now) (g.I.Source.left c.read_from.new.input) (g.F.Files.held c.args.files.now) (g.F.Files.held c.read_from.new.files) input
+    (λ none. ap g.I.Source.left (c.in_ok-instance.ensures.same_input (λ first. c.requires first none))) c.in_ok-instance.ensures.same_held in
+    IfOk-weaker c.check.result _ _ (λ given h.
+    let Told : Result Output Fault → Type 0 = λ end. end ≡ Ok (output_of given) in
+    let P : Content → Type 0 = λ found. IfSome (check_ending found instance (solved_cert instance)) Told in
+    tells_said answer content instance Told c.in_ok-instance.ensures.said (subst P same h)) c.check.ensures.ok

@@ -1,0 +1,16 @@
+-- The kinds whose solver is built.
+use Rattle.std.specs.Prelude.{IsSome}
+use Rattle.decision_model.specs.declared.instance.Instance.{Instance}
+use Rattle.decision_model.specs.declared.instance.Instance.TheVariants as instance
+use Rattle.value_cert.specs.Meaning.{solved_cert}
+use Rattle.stock_cli.specs.declared.solvers.Solver.{Solver}
+use Rattle.stock_cli.specs.declared.solvers.Solver.TheVariants as solver
+
+-- the solver of the instance's kind is built
+abbrev pub IsBuilt : Instance → Type 0
+IsBuilt instance = IsSome (solved_cert instance)
+
+-- the instance that a solver solves
+abbrev pub instance_of : Solver → Instance
+instance_of (solver.News newsvendor) = instance.News newsvendor.now
+instance_of (solver.Lots lots) = instance.Lots lots.now

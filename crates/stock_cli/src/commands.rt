@@ -1,0 +1,215 @@
+// The commands.
+ghost use Rattle.std.specs.Prelude.{◌≡◌, ◌≢◌, ◌⊎◌, ◌≤◌, List, ℕ, None, Some, Ok, Err, IfOk, IfErr, OnOk, IfSome, IsOk, IsSomeAnd};
+ghost use Rattle.std.specs.declared.option.Option.{Option};
+ghost use Rattle.std.specs.Io.KnownBytes.{IsAtEnd};
+ghost use Rattle.decision_model.specs.declared.instance.Instance.{Instance};
+ghost use Rattle.decision_model.specs.Valid.{IsValid};
+ghost use Rattle.stock_cli.specs.Causes.{command_fault, IsInputOf, IsCheck, ComparesInput, ComesTo, ReadsNoFile, counts_of, IsUnread, IsRefused, HasNoAnswer};
+ghost use Rattle.stock_cli.specs.Checks.{Reaches};
+ghost use Rattle.stock_cli.specs.Claims.{OfInstance, QuestionClaims, CompareClaims, Claims};
+ghost use Rattle.stock_cli.specs.Inputs.{origin_of, input_at, content_of, SaysInstance};
+ghost use Rattle.stock_cli.specs.Outcome.{question_outcome, question_ending, compare_ending, command_ending, output_of, AnswerHasText};
+ghost use Rattle.stock_cli.specs.Status.{IsOfInputs};
+
+use crate::answers::Answer;
+use crate::certify::certify;
+use crate::check::check;
+use crate::demand::demand;
+use crate::inputs::{Input, read_from};
+use crate::solve::solve;
+use crate::status::Status;
+use crate::words::Command;
+use decision_model::Instance;
+use report_text::Fault;
+use std::alloc::Global;
+use stock_edge::{Files, Source};
+
+/// A command that asks one instance.
+#[derive(Clone, Copy, Debug, PartialEq, Eq)]
+pub enum Question {
+    Solve,
+    Certify,
+    Demand,
+}
+
+// The answer to a question on an instance.
+fn answer_on(alloc: Global, question: Question, instance: &Instance) -> Result<Answer, Fault>
+    requires { IsValid instance.now }
+    ensures ok { IfOk result (λ answer. question_outcome question instance.now ≡ Ok (output_of answer)) }
+    ensures claims { IfOk result (λ answer. QuestionClaims question (output_of answer).text instance.now) }
+    ensures done { IfOk result (λ answer. (output_of answer).status ≡ Status.Done) }
+    ensures has_text { IfOk result AnswerHasText }
+    ensures none { IfErr result (HasNoAnswer question instance.now) }
+    ensures of_inputs { IfErr result IsOfInputs }
+{
+    match question {
+        Question::Solve => solve(alloc, instance),
+        Question::Certify => certify(alloc, instance),
+        Question::Demand => demand(alloc, instance),
+    }
+}
+
+// The answer to a question on the instance of an input.
+fn ask<I: Source, F: Files>(
+    alloc: Global,
+    question: Question,
+    from: &Input<'_>,
+    input: &mut I,
+    files: &mut F,
+) -> Result<Answer, Fault>
+    ensures ok { IfOk result (λ answer. IfSome (question_ending question (content_of (I.left input.old) (F.held files.old) (origin_of from.now))) (λ end. end ≡ Ok (output_of answer))) }
+    ensures claims { IfOk result (λ answer. IfSome (content_of (I.left input.old) (F.held files.old) (origin_of from.now))
+        (λ found. OfInstance found (QuestionClaims question (output_of answer).text))) }
+    ensures done { IfOk result (λ answer. (output_of answer).status ≡ Status.Done) }
+    ensures has_text { IfOk result AnswerHasText }
+    ensures end { OnOk result (origin_of from.now ≡ None → IsAtEnd (I.left input.new)) }
+    ensures refused { IfErr result (IsRefused
+        (IsUnread (counts_of (I.faults input.old) (I.faults input.new) (F.faults files.old) (F.faults files.new)) (λ read. read ≡ origin_of from.now))
+        (question_ending question (content_of (I.left input.old) (F.held files.old) (origin_of from.now)))) }
+    ensures of_inputs { IfErr result IsOfInputs }
+    ensures later_input { I.faults input.old ≤ I.faults input.new }
+    ensures later_files { F.faults files.old ≤ F.faults files.new }
+    ensures spared_input { (None ≡ origin_of from.now → ⊥) → input.new ≡ input.old }
+    ensures spared_files { ReadsNoFile (λ read. read ≡ origin_of from.now) → files.new ≡ files.old }
+{
+    let instance = read_from(alloc, from, input, files)?;
+    answer_on(alloc, question, &instance)
+}
+
+// The answer to a check of a certificate against an instance, one of them in a file. The certificate is read where the
+// instance stands.
+fn compare<I: Source, F: Files>(
+    alloc: Global,
+    from: &Input<'_>,
+    cert: &Input<'_>,
+    input: &mut I,
+    files: &mut F,
+) -> Result<Answer, Fault>
+    requires { origin_of from.now ≡ None → origin_of cert.now ≡ None → ⊥ }
+    ensures ok { IfOk result (λ answer. IfSome (compare_ending
+        (content_of (I.left input.old) (F.held files.old) (origin_of from.now))
+        (content_of (I.left input.old) (F.held files.old) (origin_of cert.now)))
+        (λ end. end ≡ Ok (output_of answer))) }
+    ensures claims { IfOk result (λ answer. (output_of answer).status ≡ Status.Done → CompareClaims
+        (content_of (I.left input.old) (F.held files.old) (origin_of from.now))
+        (content_of (I.left input.old) (F.held files.old) (origin_of cert.now))) }
+    ensures has_text { IfOk result AnswerHasText }
+    ensures end_instance { OnOk result (origin_of from.now ≡ None → IsAtEnd (I.left input.new)) }
+    ensures end_cert { IfOk result (λ answer. (output_of answer).status ≡ Status.Done → origin_of cert.now ≡ None → IsAtEnd (I.left input.new)) }
+    ensures refused { IfErr result (IsRefused
+        (IsUnread (counts_of (I.faults input.old) (I.faults input.new) (F.faults files.old) (F.faults files.new))
+        (ComparesInput (content_of (I.left input.old) (F.held files.old) (origin_of from.now)) (origin_of from.now) (origin_of cert.now)))
+        (compare_ending
+        (content_of (I.left input.old) (F.held files.old) (origin_of from.now))
+        (content_of (I.left input.old) (F.held files.old) (origin_of cert.now)))) }
+    ensures of_inputs { IfErr result IsOfInputs }
+    ensures later_input { I.faults input.old ≤ I.faults input.new }
+    ensures later_files { F.faults files.old ≤ F.faults files.new }
+    ensures spared_input { (ComparesInput (content_of (I.left input.old) (F.held files.old) (origin_of from.now)) (origin_of from.now) (origin_of cert.now) None → ⊥) → input.new ≡ input.old }
+    ensures spared_files { ReadsNoFile (ComparesInput (content_of (I.left input.old) (F.held files.old) (origin_of from.now)) (origin_of from.now) (origin_of cert.now)) → files.new ≡ files.old }
+    ensures reach { (instance : Instance) →
+        IsSomeAnd (content_of (I.left input.old) (F.held files.old) (origin_of from.now)) (λ found. SaysInstance found instance) →
+        origin_of cert.now ≡ None → Reaches instance (I.left input.old) (I.left input.new) }
+{
+    let instance = read_from(alloc, from, input, files)?;
+    check(alloc, &instance, cert, input, files)
+}
+
+// The answer to a check, which doesn't take both inputs from standard input.
+fn answer_check<I: Source, F: Files>(
+    alloc: Global,
+    words: &[String],
+    place: Option<usize>,
+    cert: Option<usize>,
+    input: &mut I,
+    files: &mut F,
+) -> Result<Answer, Fault>
+    ensures ok { IfOk result (λ answer. IfSome
+        (command_ending (I.left input.old) (F.held files.old) words.now (Command.Check place cert)) (λ end. end ≡ Ok (output_of answer))) }
+    ensures claims { IfOk result (λ answer. (output_of answer).status ≡ Status.Done →
+        Claims (I.left input.old) (F.held files.old) words.now (output_of answer).text (Command.Check place cert)) }
+    ensures has_text { IfOk result AnswerHasText }
+    ensures end { IfOk result (λ answer. (output_of answer).status ≡ Status.Done → IsInputOf (Command.Check place cert) None → IsAtEnd (I.left input.new)) }
+    ensures refused { IfErr result (IsRefused
+        (IsUnread (counts_of (I.faults input.old) (I.faults input.new) (F.faults files.old) (F.faults files.new))
+        (ComesTo (I.left input.old) (F.held files.old) words.now (Command.Check place cert)))
+        (command_ending (I.left input.old) (F.held files.old) words.now (Command.Check place cert))) }
+    ensures of_words { IfErr result (λ fault. IsOfInputs fault ⊎ (command_fault (Command.Check place cert) ≡ Some fault)) }
+    ensures built { (fault : Fault) → command_fault (Command.Check place cert) ≡ Some fault → result ≡ Err fault }
+    ensures later_input { I.faults input.old ≤ I.faults input.new }
+    ensures later_files { F.faults files.old ≤ F.faults files.new }
+    ensures spared_input { (ComesTo (I.left input.old) (F.held files.old) words.now (Command.Check place cert) None → ⊥) → input.new ≡ input.old }
+    ensures spared_files { ReadsNoFile (ComesTo (I.left input.old) (F.held files.old) words.now (Command.Check place cert)) → files.new ≡ files.old }
+    ensures reach { (instance : Instance) →
+        IsSomeAnd (content_of (I.left input.old) (F.held files.old) (input_at words.now place)) (λ found. SaysInstance found instance) →
+        cert ≡ None → Reaches instance (I.left input.old) (I.left input.new) }
+{
+    match (place, cert) {
+        (None, None) => Err(Fault::TwoInputs(3)),
+        _ => compare(
+            alloc,
+            &Input::named(words, place),
+            &Input::named(words, cert),
+            input,
+            files,
+        ),
+    }
+}
+
+/// What is to be written for a command, before any of it is.
+pub fn answer<I: Source, F: Files>(
+    alloc: Global,
+    words: &[String],
+    command: Command,
+    input: &mut I,
+    files: &mut F,
+) -> Result<Answer, Fault>
+    ensures ok { IfOk result (λ answer. IfSome
+        (command_ending (I.left input.old) (F.held files.old) words.now command) (λ end. end ≡ Ok (output_of answer))) }
+    ensures claims { IfOk result (λ answer. (output_of answer).status ≡ Status.Done →
+        Claims (I.left input.old) (F.held files.old) words.now (output_of answer).text command) }
+    ensures has_text { IfOk result AnswerHasText }
+    ensures end { IfOk result (λ answer. (output_of answer).status ≡ Status.Done → IsInputOf command None → IsAtEnd (I.left input.new)) }
+    ensures rejects { IfOk result (λ answer. (output_of answer).status ≡ Status.Rejected → IsCheck (Ok command)) }
+    ensures help { command ≡ Command.Help → IsOk result }
+    ensures built { (fault : Fault) → command_fault command ≡ Some fault → result ≡ Err fault }
+    ensures refused { IfErr result (IsRefused
+        (IsUnread (counts_of (I.faults input.old) (I.faults input.new) (F.faults files.old) (F.faults files.new))
+        (ComesTo (I.left input.old) (F.held files.old) words.now command))
+        (command_ending (I.left input.old) (F.held files.old) words.now command)) }
+    ensures of_words { IfErr result (λ fault. IsOfInputs fault ⊎ (command_fault command ≡ Some fault)) }
+    ensures later_input { I.faults input.old ≤ I.faults input.new }
+    ensures later_files { F.faults files.old ≤ F.faults files.new }
+    ensures spared_input { (ComesTo (I.left input.old) (F.held files.old) words.now command None → ⊥) → input.new ≡ input.old }
+    ensures spared_files { ReadsNoFile (ComesTo (I.left input.old) (F.held files.old) words.now command) → files.new ≡ files.old }
+    ensures reach { (place : Option ℕ) (instance : Instance) → command ≡ Command.Check place None →
+        IsSomeAnd (content_of (I.left input.old) (F.held files.old) (input_at words.now place)) (λ found. SaysInstance found instance) →
+        Reaches instance (I.left input.old) (I.left input.new) }
+{
+    match command {
+        Command::Solve(place) => ask(
+            alloc,
+            Question::Solve,
+            &Input::named(words, place),
+            input,
+            files,
+        ),
+        Command::Certify(place) => ask(
+            alloc,
+            Question::Certify,
+            &Input::named(words, place),
+            input,
+            files,
+        ),
+        Command::Demand(place) => ask(
+            alloc,
+            Question::Demand,
+            &Input::named(words, place),
+            input,
+            files,
+        ),
+        Command::Check(place, cert) => answer_check(alloc, words, place, cert, input, files),
+        Command::Simulate(_) | Command::Trial(_) => Err(Fault::NotBuilt),
+        Command::Help => Ok(Answer::Help),
+    }
+}

@@ -1,0 +1,29 @@
+// The command `solve`.
+ghost use Rattle.std.specs.Prelude.{◌≡◌, Ok, IfOk, IfErr};
+ghost use Rattle.decision_model.specs.Valid.{IsValid};
+ghost use Rattle.stock_cli.specs.Causes.{HasNoAnswer};
+ghost use Rattle.stock_cli.specs.Claims.{IsReport};
+ghost use Rattle.stock_cli.specs.Outcome.{solve_outcome, output_of, AnswerHasText};
+
+use crate::answers::Answer;
+use crate::commands::Question;
+use crate::solvers::solver_of;
+use crate::status::Status;
+use decision_model::Instance;
+use report_text::{Fault, report};
+use std::alloc::Global;
+
+/// The report of an optimal policy.
+pub fn solve(alloc: Global, instance: &Instance) -> Result<Answer, Fault>
+    requires { IsValid instance.now }
+    ensures ok { IfOk result (λ answer. solve_outcome instance.now ≡ Ok (output_of answer)) }
+    ensures report { IfOk result (λ answer. IsReport (output_of answer).text instance.now) }
+    ensures done { IfOk result (λ answer. (output_of answer).status ≡ Status.Done) }
+    ensures has_text { IfOk result AnswerHasText }
+    ensures none { IfErr result (HasNoAnswer Question.Solve instance.now) }
+{
+    let solver = solver_of(instance)?;
+    let cert = solver.certificate(alloc)?;
+    let text = report(alloc, instance, &cert)?;
+    Ok(Answer::Printed(text))
+}

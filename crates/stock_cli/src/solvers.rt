@@ -1,0 +1,52 @@
+// The kinds whose solver is built.
+ghost use Rattle.std.specs.Prelude.{◌≡◌, None, Some, IfOk, IfErr, OnOk};
+ghost use Rattle.decision_model.specs.Valid.{IsValid};
+ghost use Rattle.value_cert.specs.Meaning.{Certifies, solved_cert};
+ghost use Rattle.value_cert.specs.Texts.{HasText};
+ghost use Rattle.stock_cli.specs.Solvers.{IsBuilt, instance_of};
+
+use decision_model::{Instance, LotSize};
+use fraction128::Memory;
+use instance_json::InstanceFault;
+use newsvendor::{Newsvendor, solve_newsvendor};
+use report_text::Fault;
+use std::alloc::Global;
+use value_cert::Cert;
+use wagner_whitin::solve_lots;
+
+/// An instance of a kind whose solver is built.
+#[derive(Clone, Copy)]
+pub enum Solver<'a> {
+    News(&'a Newsvendor),
+    Lots(&'a LotSize),
+}
+
+/// What solves an instance. Here alone a kind whose solver isn't built is told apart.
+pub fn solver_of(instance: &Instance) -> Result<Solver<'_>, Fault>
+    ensures ok { IfOk result (λ solver. instance_of solver ≡ instance.now) }
+    ensures built { OnOk result (IsBuilt instance.now) }
+    ensures none { IfErr result (λ fault. (fault ≡ Fault.Instance InstanceFault.NotBuilt) × (solved_cert instance.now ≡ None)) }
+{
+    match instance {
+        Instance::News(newsvendor) => Ok(Solver::News(newsvendor)),
+        Instance::Lots(lots) => Ok(Solver::Lots(lots)),
+        Instance::Finite(_) | Instance::Average(_) | Instance::Serial(_) => {
+            Err(Fault::Instance(InstanceFault::NotBuilt))
+        }
+    }
+}
+
+impl Solver<'_> {
+    /// The certificate of the instance.
+    pub fn certificate(&self, alloc: Global) -> Result<Cert, Memory>
+        requires { IsValid (instance_of self.now) }
+        ensures ok { IfOk result (λ c. solved_cert (instance_of self.now) ≡ Some c) }
+        ensures certifies { IfOk result (Certifies (instance_of self.now)) }
+        ensures has_text { IfOk result HasText }
+    {
+        match self {
+            Solver::News(newsvendor) => Ok(Cert::News(solve_newsvendor(newsvendor))),
+            Solver::Lots(lots) => Ok(Cert::Lots(solve_lots(alloc, lots)?)),
+        }
+    }
+}

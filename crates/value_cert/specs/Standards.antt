@@ -1,0 +1,16 @@
+-- What certificates for an instance are held against: the one dispatch over its kind.
+use Rattle.decision_model.specs.declared.instance.Instance.{Instance}
+use Rattle.decision_model.specs.declared.instance.Instance.TheVariants.{News, Lots}
+use Rattle.value_cert.specs.LotsRules.{lots_standard}
+use Rattle.value_cert.specs.NewsRules.{news_standard}
+use Rattle.value_cert.specs.Rules.{Rules}
+use Rattle.value_cert.specs.Standard.{Standard, unbuilt}
+
+abbrev pub standard_of : Instance → Standard
+standard_of (News newsvendor) = news_standard newsvendor
+standard_of (Lots lots) = lots_standard lots
+standard_of _ = unbuilt
+
+-- the rules of the instance's kind
+abbrev pub rules_of : Instance → Rules
+rules_of instance = (standard_of instance).rules
