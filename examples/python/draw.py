@@ -1,0 +1,92 @@
+#!/usr/bin/env python3
+"""Draws the expected cost of each order-up-to level of a newsvendor, or the order and the stock of each period of a
+lot plan: with matplotlib where it is there, else as bars of text, which `--text` asks for.
+
+    python3 examples/python/draw.py [--text] examples/newsvendor-bakery.json
+"""
+import json
+import sys
+
+import stockreader
+
+WIDTH = 40
+
+
+def level_costs(instance):
+    """The expected cost of each level from 0 to the greatest demand."""
+    (law,) = stockreader.demand(instance)
+    holding, stockout = instance["holding"], instance["stockout"]
+    return [sum(chance * (holding * max(level - size, 0) + stockout * max(size - level, 0))
+                for size, chance in law.probabilities.items())
+            for level in range(max(law.probabilities) + 1)]
+
+
+def stocks(orders, demand):
+    """The stock at the end of each period."""
+    stock, ends = 0, []
+    for order, wanted in zip(orders, demand):
+        stock += order - wanted
+        ends.append(stock)
+    return ends
+
+
+def series_of(instance):
+    """What is drawn: the title, the name of the places, and for each series its name, its first place and its values."""
+    answer = stockreader.solve(instance)
+    cost = "cost %s" % answer.cost
+    if answer.kind == "newsvendor":
+        level = answer.policy[0]["order-up-to"]
+        title = "Expected cost of each level; least at %d, %s" % (level, cost)
+        return title, "level", [("cost", 0, level_costs(instance))]
+    orders = [line["order"] for line in answer.policy]
+    return "Lot plan, " + cost, "period", [
+        ("order", 1, orders), ("stock at the end", 1, stocks(orders, instance["demand"]))]
+
+
+def bars(title, place, series):
+    print(title)
+    for name, first, values in series:
+        print("%s: %s" % (place, name))
+        most = max(values) or 1
+        for index, value in enumerate(values, first):
+            line = "%4d %9.2f %s" % (index, value, "#" * round(WIDTH * value / most))
+            print(line.rstrip())
+
+
+def picture(plot, title, place, series):
+    for name, first, values in series:
+        plot.step(range(first, first + len(values)), [float(value) for value in values], where="mid", label=name)
+    plot.title(title)
+    plot.xlabel(place)
+    plot.legend()
+    plot.show()
+
+
+def main():
+    words = sys.argv[1:]
+    as_text = "--text" in words
+    names = [word for word in words if word != "--text"]
+    if len(names) != 1:
+        print("usage: draw.py [--text] INSTANCE", file=sys.stderr)
+        return 2
+    try:
+        with open(names[0], encoding="utf-8") as file:
+            drawn = series_of(json.load(file))
+    except (stockreader.StockError, OSError) as error:
+        print(error, file=sys.stderr)
+        return getattr(error, "status", 3)
+    if not as_text:
+        try:
+            import matplotlib.pyplot as plot
+        except ImportError:
+            print("matplotlib is missing, so this is drawn as text", file=sys.stderr)
+            as_text = True
+    if as_text:
+        bars(*drawn)
+    else:
+        picture(plot, *drawn)
+    return 0
+
+
+if __name__ == "__main__":
+    sys.exit(main())

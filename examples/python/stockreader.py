@@ -1,0 +1,98 @@
+"""A thin reader of `stock` in Python's standard library: it runs a command and gives the answer as data.
+
+    import stockreader
+    answer = stockreader.solve({"kind": "newsvendor", "holding": 1, "stockout": 3,
+                                "demand": {"points": [[0, 1], [1, 1], [2, 1], [3, 1]]}})
+    answer.policy   # [{"order-up-to": 2}]
+    answer.cost     # Fraction(3, 2)
+
+An instance is a dict, or the path of a JSON file. The program is the one that the variable STOCK of the environment
+names, else `./stock` of the repository that this file lies in.
+"""
+import json
+import os
+import subprocess
+import tempfile
+from collections import namedtuple
+from fractions import Fraction
+
+HERE = os.path.dirname(os.path.abspath(__file__))
+PROGRAM = os.path.join(HERE, "..", "..", "stock")
+
+# The kind of the instance, the lines of the policy as dicts from a word to its number, and the exact cost.
+Answer = namedtuple("Answer", "kind policy cost")
+
+# Whether a certificate is accepted; else the first line that breaks a rule, and the rule.
+Verdict = namedtuple("Verdict", "accepted line rule")
+
+# The distribution of demand of a period (None where there is but one): demand -> probability.
+Law = namedtuple("Law", "period probabilities")
+
+
+class StockError(Exception):
+    """The program gave no answer: its exit status, and its message."""
+
+    def __init__(self, status, message):
+        super().__init__(message)
+        self.status = status
+
+
+def run(words, instance):
+    """The exit status (0 or 1) and the text of a command; the instance is given on standard input."""
+    if isinstance(instance, dict):
+        text = json.dumps(instance).encode()
+    else:
+        with open(instance, "rb") as file:
+            text = file.read()
+    done = subprocess.run([os.environ.get("STOCK", PROGRAM), *words], input=text,
+                          stdout=subprocess.PIPE, stderr=subprocess.PIPE)
+    if done.returncode > 1:
+        raise StockError(done.returncode, done.stderr.decode().strip())
+    return done.returncode, done.stdout.decode()
+
+
+def pairs_of(line):
+    """A line of words and numbers in turn, as a dict."""
+    words = line.split()
+    return dict(zip(words[::2], map(int, words[1::2])))
+
+
+def solve(instance):
+    """The optimal policy and its exact cost."""
+    _, text = run(["solve"], instance)
+    kind, *policy, cost, _ = text.splitlines()
+    return Answer(kind.split()[1], [pairs_of(line) for line in policy], Fraction(cost.split()[1]))
+
+
+def certify(instance):
+    """The text of the certificate."""
+    return run(["certify"], instance)[1]
+
+
+def check(instance, certificate):
+    """What the checker says of a certificate's text, whoever wrote it."""
+    with tempfile.NamedTemporaryFile("w", suffix=".certificate") as file:
+        file.write(certificate)
+        file.flush()
+        status, text = run(["check", "-", file.name], instance)
+    if status == 0:
+        return Verdict(True, None, None)
+    _, _, line, _, rule = text.split()
+    return Verdict(False, int(line), int(rule))
+
+
+def demand(instance):
+    """The distributions of demand, over the lead time where the kind has one."""
+    laws = []
+    period, weights = None, {}
+    for line in run(["demand"], instance)[1].splitlines():
+        first, second = line.split()
+        if first == "period":
+            period = int(second)
+        elif first == "total":
+            total = int(second)
+            laws.append(Law(period, {size: Fraction(weight, total) for size, weight in weights.items()}))
+            weights = {}
+        else:
+            weights[int(first)] = int(second)
+    return laws

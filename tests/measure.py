@@ -1,0 +1,157 @@
+#!/usr/bin/env python3
+"""Counts the instructions of the built program and compares them with the table of docs/PERFORMANCE.md.
+
+    python3 tests/measure.py [--write] [--program FILE] [PART OF A ROW'S NAME ..]
+
+It runs the program under valgrind's callgrind. A count that is more than 5 % above the table's is told, and the exit
+status is then 1; `--write` puts the counts into the table instead. Where valgrind is missing it says so and ends with
+status 0; where the program isn't built, with 2.
+"""
+import json
+import os
+import re
+import shutil
+import subprocess
+import sys
+import tempfile
+
+HERE = os.path.dirname(os.path.abspath(__file__))
+PROGRAM = os.path.join(HERE, "..", "crates", "stock", "out", "stock")
+PAGE = os.path.join(HERE, "..", "docs", "PERFORMANCE.md")
+# How much more than the table's count is too much.
+SLACK = 1.05
+
+
+def newsvendor(points):
+    weights = [[demand, 1 + demand * 7 % 13] for demand in range(points)]
+    return {"kind": "newsvendor", "holding": 2, "stockout": 7, "demand": {"points": weights}}
+
+
+def steady_lots(periods):
+    return {"kind": "lots", "demand": [90 + period * 37 % 60 for period in range(periods)], "setup": 500, "holding": 2}
+
+
+def varied_lots(periods):
+    setups = [10 ** (period * 7 % 5) for period in range(periods)]
+    return {"kind": "lots", "demand": [period * 37 % 60 for period in range(periods)], "setup": setups, "holding": 1}
+
+
+def single_lots(periods):
+    return {"kind": "lots", "demand": [1] * periods, "setup": 1000000000, "holding": 1}
+
+
+def wide_laws(laws):
+    """Refused as too wide, when all laws are read."""
+    return {"kind": "finite", "periods": laws - 8, "lead": 8, "holding": 1, "stockout": 2,
+            "demand": [{"uniform": [0, 10000]}] * laws, "cap": 0, "start": 0}
+
+
+def long_lead(greatest):
+    return {"kind": "finite", "periods": 1, "lead": 8, "holding": 1, "stockout": 2,
+            "demand": {"uniform": [0, greatest]}, "cap": 10, "start": 0}
+
+
+def months(lead):
+    points = [[0, 5], [1, 10], [2, 20], [3, 30], [4, 20], [5, 10], [6, 5]]
+    return {"kind": "finite", "periods": 12, "lead": lead, "holding": 1, "stockout": 9,
+            "demand": {"points": points}, "cap": 10, "start": 0}
+
+
+def months_each(lead):
+    year = months(lead)
+    year["demand"] = [year["demand"]] * (12 + lead)
+    return year
+
+
+# The rows: name, command, instance of a size, and the three sizes.
+ROWS = [
+    ("`solve`, newsvendor of 2,500, 5,000, 10,000 points", "solve", newsvendor, (2500, 5000, 10000)),
+    ("`solve`, steady lots of 500, 1,000, 2,000 periods", "solve", steady_lots, (500, 1000, 2000)),
+    ("`solve`, varied lots of 500, 1,000, 2,000 periods", "solve", varied_lots, (500, 1000, 2000)),
+    ("`solve`, single lots of 500, 1,000, 2,000 periods", "solve", single_lots, (500, 1000, 2000)),
+    ("`certify`, steady lots of 500, 1,000, 2,000 periods", "certify", steady_lots, (500, 1000, 2000)),
+    ("`check`, steady lots of 500, 1,000, 2,000 periods", "check", steady_lots, (500, 1000, 2000)),
+    ("`check`, varied lots of 500, 1,000, 2,000 periods", "check", varied_lots, (500, 1000, 2000)),
+    ("`check`, single lots of 500, 1,000, 2,000 periods", "check", single_lots, (500, 1000, 2000)),
+    ("reading 28, 56, 112 laws of 10,001 demands", "solve", wide_laws, (28, 56, 112)),
+    ("`demand`, lead time 8, greatest demand 100, 200, 400", "demand", long_lead, (100, 200, 400)),
+    ("`demand`, one law for 12 months, lead time 0, 2, 4", "demand", months, (0, 2, 4)),
+    ("`demand`, a law a month, lead time 0, 2, 4", "demand", months_each, (0, 2, 4)),
+]
+
+
+def count(program, words):
+    """The instructions of one run."""
+    done = subprocess.run(["valgrind", "--tool=callgrind", "--callgrind-out-file=/dev/null", program, *words],
+                          stdin=subprocess.DEVNULL, stdout=subprocess.DEVNULL, stderr=subprocess.PIPE)
+    found = re.search(rb"Collected : (\d+)", done.stderr)
+    if not found:
+        raise SystemExit(done.stderr.decode(errors="replace"))
+    return int(found[1])
+
+
+def counts(program, command, instance_of, sizes, folder):
+    """The counts of a row, in millions."""
+    counted = []
+    for size in sizes:
+        instance, certificate = os.path.join(folder, "instance"), os.path.join(folder, "certificate")
+        with open(instance, "w", encoding="utf-8") as file:
+            json.dump(instance_of(size), file)
+        words = [command, instance]
+        if command == "check":
+            with open(certificate, "wb") as file:
+                subprocess.run([program, "certify", instance], stdout=file, check=True)
+            words.append(certificate)
+        counted.append(count(program, words) / 1e6)
+    return counted
+
+
+def row_of(page, name):
+    """The row of the table, as a match of its three counts."""
+    found = re.search(r"^\| %s \|(.*)\|$" % re.escape(name), page, re.M)
+    if not found:
+        raise SystemExit("docs/PERFORMANCE.md has no row '%s'" % name)
+    return found
+
+
+def main():
+    words = sys.argv[1:]
+    program = PROGRAM
+    if "--program" in words:
+        place = words.index("--program")
+        program = words[place + 1]
+        del words[place:place + 2]
+    writes = "--write" in words
+    parts = [word for word in words if word != "--write"]
+    program = os.path.abspath(program)
+    if not os.access(program, os.X_OK):
+        print("%s isn't built; ./build builds it" % os.path.relpath(program))
+        return 2
+    if not shutil.which("valgrind"):
+        print("valgrind is missing, so nothing was counted")
+        return 0
+    with open(PAGE, encoding="utf-8") as file:
+        page = file.read()
+    slower = 0
+    with tempfile.TemporaryDirectory() as folder:
+        for name, command, instance_of, sizes in ROWS:
+            if not all(part in name for part in parts):
+                continue
+            counted = counts(program, command, instance_of, sizes, folder)
+            row = row_of(page, name)
+            wanted = [float(cell) for cell in row[1].split("|")]
+            print("%s: %s (%s)" % (name, " ".join("%.2f" % it for it in counted), " ".join("%.2f" % it for it in wanted)))
+            if writes:
+                cells = " | ".join("%.2f" % it for it in counted)
+                page = page.replace(row[0], "| %s | %s |" % (name, cells))
+            elif any(it > most * SLACK for it, most in zip(counted, wanted)):
+                slower += 1
+                print("  takes more than 5 % above the table")
+    if writes:
+        with open(PAGE, "w", encoding="utf-8") as file:
+            file.write(page)
+    return 1 if slower else 0
+
+
+if __name__ == "__main__":
+    sys.exit(main())
