@@ -1,8 +1,8 @@
 -- What a width number of at most 2^120 says of its factors, and of the laws of lead times.
 use Rattle.std.proofs.Common.{ℕ, ◌+◌, ◌-◌, ◌*◌, ◌^◌, ◌≤◌, length, sum, slice_index, ℤ, pos, negsuc, ◌+ℤ◌, ◌-ℤ◌, ◌≤ℤ◌, arith}
 use Rattle.std.proofs.lemmas.Int.{ints}
-use Rattle.std.proofs.Math.Nat.{one-le-pow}
-use Rattle.std.proofs.lemmas.Nat.{mul-le}
+use Rattle.std.proofs.Math.Nat.{one-le-pow, pow-le-pow_right}
+use Rattle.std.proofs.lemmas.Nat.{mul-le, mul-pow}
 use Rattle.decision_model.specs.declared.finite.Finite.{Finite}
 use Rattle.decision_model.specs.declared.average.Average.{Average}
 use Rattle.decision_model.specs.declared.serial.Serial.{Serial}
@@ -46,6 +46,36 @@ unfolding finite_width
 finite_discounts_fit finite readable fits =
     let weights_some = pow_some (common_total finite.laws) (finite.periods + finite.lead) (common_total_some finite.laws (finite.periods + finite.lead) (omega (arith, readable.periods.least)) readable.laws) in
     omega (arith, fits, factor_within (finite.periods * finite_cost_bound finite * common_total finite.laws ^ (finite.periods + finite.lead)) (finite.discount_den ^ finite.periods) 1 (mul_some _ _ (mul_some _ _ readable.periods.least (finite_cost_bound_some finite)) weights_some) (omega arith))
+
+-- both, and so those of the last n periods
+pub finite_scale_fits : (finite : Finite) → IsReadableFinite finite → finite_width finite ≤ 2 ^ 120 → (n : ℕ) → n ≤ finite.periods → finite.discount_den ^ n * common_total finite.laws ^ (n + finite.lead) ≤ 2 ^ 120
+unfolding finite_width
+finite_scale_fits finite readable fits n le =
+    let den = finite.discount_den in
+    let weight = common_total finite.laws in
+    let some_weight = common_total_some finite.laws (finite.periods + finite.lead) (omega (arith, readable.periods.least)) readable.laws in
+    let discounts : den ^ n ≤ den ^ finite.periods = pow-le-pow_right {n = den} (discount_some _ _ readable.discount) le in
+    let weights : weight ^ (n + finite.lead) ≤ weight ^ (finite.periods + finite.lead) = pow-le-pow_right {n = weight} some_weight (omega (arith, le)) in
+    let scales = mul-le (den ^ n) (weight ^ (n + finite.lead)) (den ^ finite.periods) (weight ^ (finite.periods + finite.lead)) discounts weights in
+    let most = behind (finite.periods * finite_cost_bound finite) (weight ^ (finite.periods + finite.lead)) (den ^ finite.periods) (mul_some _ _ readable.periods.least (finite_cost_bound_some finite)) in
+    omega (arith, fits, scales, most)
+  where
+    behind : (front w d : ℕ) → 1 ≤ front → d * w ≤ front * w * d
+    behind front w d some = omega (arith, mul-le 1 (w * d) front (w * d) some (omega arith))
+
+pub finite_scale_some : (finite : Finite) → IsReadableFinite finite → (n : ℕ) → 1 ≤ finite.discount_den ^ n * common_total finite.laws ^ (n + finite.lead)
+finite_scale_some finite readable n =
+    mul_some _ _ (pow_some finite.discount_den n (discount_some _ _ readable.discount))
+    (pow_some (common_total finite.laws) (n + finite.lead) (common_total_some finite.laws (finite.periods + finite.lead) (omega (arith, readable.periods.least)) readable.laws))
+
+-- .. each of the two
+pub finite_discounts_upto : (finite : Finite) → IsReadableFinite finite → finite_width finite ≤ 2 ^ 120 → (n : ℕ) → n ≤ finite.periods → finite.discount_den ^ n ≤ 2 ^ 120
+finite_discounts_upto finite readable fits n le =
+    omega (arith, finite_discounts_fit finite readable fits, pow-le-pow_right {n = finite.discount_den} (discount_some _ _ readable.discount) le)
+
+pub finite_weights_upto : (finite : Finite) → IsReadableFinite finite → finite_width finite ≤ 2 ^ 120 → (n : ℕ) → n ≤ finite.periods + finite.lead → common_total finite.laws ^ n ≤ 2 ^ 120
+finite_weights_upto finite readable fits n le =
+    omega (arith, finite_weights_fit finite readable fits, pow-le-pow_right {n = common_total finite.laws} (common_total_some finite.laws (finite.periods + finite.lead) (omega (arith, readable.periods.least)) readable.laws) le)
 
 -- ---- the average kind
 average_cost_some : (average : Average) → 1 ≤ average.setup + average_cost_bound average
@@ -113,3 +143,21 @@ pub serial_discounts_fit : (serial : Serial) → IsReadableSerial serial → ser
 unfolding serial_width
 serial_discounts_fit serial readable fits =
     omega (arith, fits, factor_within ((2 * serial.periods) ^ length serial.holding * serial_cost_bound serial * common_total serial.laws ^ serial.periods) (serial.discount_den ^ serial.periods) 1 (mul_some _ _ (mul_some _ _ (serial_parts_some serial readable) (serial_cost_bound_some serial)) (serial_weights_some serial readable)) (omega arith))
+
+-- the numbers of the last n periods are over a product that fits
+pub serial_scale_fits : (serial : Serial) → IsReadableSerial serial → serial_width serial ≤ 2 ^ 120 → (n : ℕ) → n ≤ serial.periods → (serial.discount_den * common_total serial.laws) ^ n ≤ 2 ^ 120
+unfolding serial_width
+serial_scale_fits serial readable fits n le =
+    let den = serial.discount_den in
+    let weight = common_total serial.laws in
+    let some = mul_some den weight (discount_some _ _ readable.discount) (common_total_some serial.laws serial.periods readable.periods.least readable.laws) in
+    let grows : (den * weight) ^ n ≤ (den * weight) ^ serial.periods = pow-le-pow_right {n = den * weight} some le in
+    let most = behind ((2 * serial.periods) ^ length serial.holding * serial_cost_bound serial) (weight ^ serial.periods) (den ^ serial.periods) (mul_some _ _ (serial_parts_some serial readable) (serial_cost_bound_some serial)) in
+    omega (arith, fits, grows, mul-pow den weight serial.periods, most)
+  where
+    behind : (front w d : ℕ) → 1 ≤ front → d * w ≤ front * w * d
+    behind front w d some = omega (arith, mul-le 1 (w * d) front (w * d) some (omega arith))
+
+pub serial_scale_some : (serial : Serial) → IsReadableSerial serial → (n : ℕ) → 1 ≤ (serial.discount_den * common_total serial.laws) ^ n
+serial_scale_some serial readable n =
+    pow_some _ n (mul_some _ _ (discount_some _ _ readable.discount) (common_total_some serial.laws serial.periods readable.periods.least readable.laws))

@@ -4,7 +4,9 @@
 #![tactic(auto)]
 
 mod average;
+mod average_problem;
 mod finite;
+mod finite_problem;
 mod grid;
 mod instance;
 mod items;
@@ -14,9 +16,13 @@ mod least_tests;
 pub mod limits;
 mod lots;
 mod news;
+mod problem;
+#[cfg(test)]
+mod problem_tests;
 mod room;
 mod rules;
 mod serial;
+mod serial_problem;
 mod stock;
 mod sweep;
 #[cfg(test)]
@@ -26,11 +32,13 @@ mod width;
 mod window;
 
 pub use average::{Average, has_demand, is_unit_demand};
+pub use average_problem::AverageRun;
 pub use finite::Finite;
 pub use instance::{Instance, grid_fits, kind, width_ok};
 pub use items::{Amounts, Items, Laws, Positions};
 pub use kinds::Kind;
 pub use lots::{LotSize, speculative_period};
+pub use problem::Problem;
 pub use serial::Serial;
 pub use sweep::Sweep;
 pub use walk::Walk;

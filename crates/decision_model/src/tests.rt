@@ -209,11 +209,12 @@ fn starts(alloc: Global, first: i64, second: i64) -> Result<Positions, Fail>
 
 // 16 periods, two echelons, W = 8 and b = 4: the width number is 32^2 times C times 2^48 times 2^32. The grid begins at -52
 // and the greatest demand is 3, so C is 1 and the sum of the rates times 331 where the cap is 275.
-fn serial(alloc: Global, stockout: u64, cap: i64) -> Result<Serial, Fail>
+pub(crate) fn serial(alloc: Global, stockout: u64, cap: i64) -> Result<Serial, Fail>
     requires stockout { stockout ≤ 1000000 }
     requires cap_some { pos 0 ≤ℤ cap }
     requires cap_most { cap ≤ℤ pos 1000000 }
-    ensures { IfOk result IsReadableSerial }
+    ensures readable { IfOk result IsReadableSerial }
+    ensures periods { IfOk result (λ serial. serial.periods ≡ 16) }
 {
     let holding = rates(alloc, &[1_000_000, 400_000])?;
     let unit = rates(alloc, &[500_000, 900_000])?;

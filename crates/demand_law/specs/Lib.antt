@@ -9,3 +9,4 @@ pub mod LawSums
 pub mod ListedSums
 pub mod ServedLaws
 pub mod Named
+pub mod CountedSums

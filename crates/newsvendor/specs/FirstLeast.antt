@@ -5,10 +5,11 @@ use Rattle.std.proofs.lemmas.Int.{ints}
 use Rattle.std.proofs.lemmas.Bool.{cases_lt}
 use Rattle.newsvendor.specs.Least.{IsFirstLeast, first_least_upto}
 
-record IsFirstUpto (cost : ℕ → ℤ) (n q : ℕ) : Type 0 where
-  within : q ≤ n
-  least : (k : ℕ) → k ≤ n → cost q ≤ℤ cost k
-  first : (k : ℕ) → k < q → cost q <ℤ cost k
+-- of the levels up to n none costs less, and each lower one costs more
+pub record IsFirstUpto (cost : ℕ → ℤ) (n q : ℕ) : Type 0 where
+  pub within : q ≤ n
+  pub least : (k : ℕ) → k ≤ n → cost q ≤ℤ cost k
+  pub first : (k : ℕ) → k < q → cost q <ℤ cost k
 
 one_more : (cost : ℕ → ℤ) (n q : ℕ) (cheaper : Bool) → IsFirstUpto cost n q → (cheaper ≡ true → cost (suc n) <ℤ cost q) → (cheaper ≡ false → cost q ≤ℤ cost (suc n)) → IsFirstUpto cost (suc n) (cond cheaper (suc n) q)
 one_more cost n q true found less more =
@@ -40,7 +41,8 @@ is_less a b h = grind (arith, ints)
 is_no_less : (a b : ℤ) → int_lt a b ≡ false → b ≤ℤ a
 is_no_less a b h = grind (arith, ints)
 
-search_is_first : (cost : ℕ → ℤ) (n : ℕ) → IsFirstUpto cost n (first_least_upto cost n)
+-- the search finds the first level of least cost among those up to n
+pub search_is_first : (cost : ℕ → ℤ) (n : ℕ) → IsFirstUpto cost n (first_least_upto cost n)
 unfolding first_least_upto
 search_is_first cost zero = record { within = omega arith; least = λ k le. let e : k ≡ 0 = omega arith in rw e (omega (arith, ints)); first = λ k below. absurd (omega arith) }
 search_is_first cost (suc n) =

@@ -2,8 +2,8 @@ use Rattle.std.proofs.Common.{arith}
 use Rattle.std.proofs.lemmas.Int.{ints}
 use Rattle.decision_model.proofs.tests.serial.Goals as goal
 
-pub returns : goal.returns
-returns c =
+pub returns-clause-readable : goal.returns-clause-readable
+returns-clause-readable c =
     rw (c.holding.view_is, c.unit.view_is)
     (record {
       periods = record { least = omega arith; most = omega arith };

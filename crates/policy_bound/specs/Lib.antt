@@ -1,0 +1,4 @@
+pub mod PathSums
+pub mod PolicyBound
+pub mod RestBound
+pub mod ListedLeast
