@@ -1,6 +1,10 @@
 // Certificates of finite horizons.
-ghost use Rattle.std.specs.Prelude.{◌≡◌, [], ◌∷◌, IsTrue};
+ghost use Rattle.std.specs.Prelude.{◌≡◌, ◌+◌, ◌*◌, ◌^◌, ◌<◌, ◌≤◌, [], ◌∷◌, IsTrue};
 ghost use Rattle.std.specs.List.{list_all};
+ghost use Rattle.fraction128.specs.Reduced.{lowest_num, lowest_den};
+ghost use Rattle.decision_model.specs.Finite.{IsValidFinite};
+ghost use Rattle.value_cert.specs.FiniteRules.{cells_of, cell_value, start_value};
+ghost use Rattle.value_cert.specs.FiniteValues.{scale};
 ghost use Rattle.value_cert.specs.Finite.{finite_follows, finite_table, value_line, row_lines};
 ghost use Rattle.value_cert.specs.Grammar.{has_numbers};
 ghost use Rattle.value_cert.specs.Texts.{cert_lines};
@@ -8,10 +12,11 @@ ghost use Rattle.value_cert.specs.Writes.{output, Writes};
 ghost use Rattle.value_cert.specs.declared.cert.Cert.{Cert};
 
 use crate::line::{CertLine, Tag, head_line, period_line};
-use crate::numbers::is_discount_fraction;
+use crate::numbers::{is_discount_fraction, power};
 use crate::part::{Part, write_each, write_to_end};
 use crate::piece::{Piece, write_line};
-use decision_model::{Items, Kind};
+use decision_model::{Finite, Items, Kind};
+use fraction128::Frac;
 use stock_edge::{Failed, Sink};
 
 /// A position, the position to order up to there, and the cost from there on.
@@ -100,4 +105,53 @@ pub(crate) fn write<K: Sink>(
     let head = head_line(Kind::Finite, cert.discount_num, cert.discount_den);
     write_line(&head, piece, sink)?;
     write_to_end(cert.rows.as_slice(), piece, sink)
+}
+
+/// What the values of a finite horizon are over, where so many periods are left: the discount's denominator once a
+/// period, and the common sum of weights once a period and once more a period of the lead time.
+#[tactic(auto, using(decision_model::specs::WidthFacts::finite_scale_fits), unfolding(crate::specs::FiniteValues::scale))]
+pub fn scale_of(finite: &Finite, left: u32) -> u128
+    requires valid { IsValidFinite finite.now }
+    requires left { left ≤ finite.now.periods }
+    ensures scale { result ≡ scale finite.now left }
+    ensures some { 1 ≤ result }
+    ensures small { result ≤ 2 ^ 120 }
+{
+    let discounts = power(u128::from(finite.discount_den), left);
+    let weights = power(finite.laws.total(), left + finite.lead);
+    discounts * weights
+}
+
+// The value of a position in a row; 0 where it has no cell.
+fn value_at(cells: &[FiniteCell], position: i64) -> i128
+    ensures { result ≡ cell_value cells.now position }
+{
+    for cell in cells {
+        if cell.at == position {
+            return cell.value;
+        }
+    }
+    0
+}
+
+// The value of the start in the first period.
+fn start_value(rows: &[FiniteRow], start: i64) -> i128
+    ensures { result ≡ cell_value (cells_of rows.now 1) start }
+{
+    for row in rows {
+        if row.period == 1 {
+            return value_at(row.cells.as_slice(), start);
+        }
+    }
+    0
+}
+
+/// The cost of a certificate's policy: the value of the start over the scale of all periods.
+pub(crate) fn policy_cost(finite: &Finite, cert: &FiniteCert) -> Frac
+    requires { IsValidFinite finite.now }
+    ensures num { result.num ≡ lowest_num (start_value finite.now cert.now) (scale finite.now finite.now.periods) }
+    ensures den { result.den ≡ lowest_den (start_value finite.now cert.now) (scale finite.now finite.now.periods) }
+{
+    let value = start_value(cert.rows.as_slice(), finite.start);
+    Frac::new(value, scale_of(finite, finite.periods))
 }

@@ -28,7 +28,7 @@ pub use average::{AverageCell, AverageCells, AverageCert};
 pub use cert::Cert;
 pub use cost::cost_of;
 pub use decision_model::Items;
-pub use finite::{FiniteCell, FiniteCells, FiniteCert, FiniteRow, FiniteRows};
+pub use finite::{FiniteCell, FiniteCells, FiniteCert, FiniteRow, FiniteRows, scale_of};
 pub use laws::{
     fronts_have_places, lines_tell_certificates, solutions_have_texts, texts_are_apart,
 };

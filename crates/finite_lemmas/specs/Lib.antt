@@ -1,0 +1,17 @@
+pub mod FiniteLeast
+pub mod FiniteWorked
+pub mod OrderForms
+pub mod KConvex
+pub mod Orders
+pub mod LeastChoice
+pub mod StockConvex
+pub mod Forms
+pub mod NumberTests
+pub mod RowCells
+pub mod SolvedRows
+pub mod RowsKept
+pub mod RowsLeast
+pub mod SolvedKept
+pub mod SolvedTexts
+pub mod SolvedFronts
+pub mod LeastTest

@@ -1,0 +1,14 @@
+pub mod Known
+pub mod Casts
+pub mod Products
+pub mod Factors
+pub mod Demands
+pub mod Bounds
+pub mod Places
+pub mod LawRows
+pub mod StayCosts
+pub mod RowFacts
+pub mod BestOrders
+pub mod OrderValues
+pub mod FoundFacts
+pub mod RowSteps

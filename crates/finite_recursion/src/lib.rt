@@ -1,0 +1,17 @@
+//! The backward recursion over the values of a finite horizon, period by period and position by position, in tables that
+//! its caller keeps.
+#![tactic(auto)]
+
+mod costs;
+mod ends;
+mod laws;
+mod reach;
+mod recursion;
+mod row;
+mod scales;
+mod tables;
+#[cfg(test)]
+mod tests;
+
+pub use recursion::{Found, Recursion};
+pub use tables::{cells_of, lead_sums, sums_of};

@@ -1,0 +1,4 @@
+mod Rows
+pub mod Fronts
+pub mod RowLoop
+pub mod RowsLoop
