@@ -7,24 +7,12 @@ use Rattle.value_cert.specs.Breaches.{broken_rule, lines_breach, lines_breach_fr
 use Rattle.value_cert.specs.Grammar.{place_after}
 use Rattle.value_cert.specs.Texts.{IsWhole}
 use Rattle.value_cert.specs.CertFacts.{place_from_front}
-use Rattle.value_cert.specs.Rules.{Rules, known_from, known_of, later_rule}
+use Rattle.value_cert.specs.Kept.{Keeps, known_of-more}
+use Rattle.value_cert.specs.Rules.{known_of, later_rule}
 use Rattle.value_cert.specs.Standards.{rules_of}
 use Rattle.value_cert.specs.declared.line.CertLine.{CertLine}
 use Rattle.value_cert.specs.declared.place.Place.{Place}
 use Rattle.cert_check.proofs.Breaches.{none_here, none_further, or_none}
-
--- no line breaks a rule from 2 on
-abbrev pub Keeps : (rules : Rules) → rules.Known → List CertLine → Type 0
-Keeps rules known [] = Unit {0}
-Keeps rules known (line ∷ lines) = (rules.broken known line ≡ None) × Keeps rules (rules.further known line) lines
-
--- ---- what is known of a further line
-known_from-more : (rules : Rules) (known : rules.Known) (before : List CertLine) (line : CertLine) → known_from rules known (before ++ line ∷ []) ≡ rules.further (known_from rules known before) line
-known_from-more rules known [] line = refl
-known_from-more rules known (next ∷ before) line = known_from-more rules (rules.further known next) before line
-
-pub known_of-more : (rules : Rules) (before : List CertLine) (line : CertLine) → known_of rules (before ++ line ∷ []) ≡ rules.further (known_of rules before) line
-known_of-more rules before line = known_from-more rules rules.nothing before line
 
 -- ---- the breach of lines
 later_none : (nowhere : Bool) (rule : Option ℕ) → cond nowhere (Some 1) rule ≡ None → rule ≡ None

@@ -8,6 +8,8 @@ pub mod Breaches
 pub mod Kept
 pub mod ProvenNews
 pub mod ProvenLots
+pub mod FiniteLines
+pub mod ProvenFinite
 pub mod ProvenLater
 pub mod ProvenKinds
 pub mod Checks

@@ -10,7 +10,7 @@ use Rattle.value_cert.specs.declared.cert.Cert.TheVariants as cert
 use Rattle.value_cert.specs.declared.lots.LotCert.{LotCert}
 use Rattle.value_cert.specs.declared.line.CertLine.{CertLine}
 use Rattle.value_cert.specs.declared.line.CertLine.TheVariants.{Cost, End}
-use Rattle.cert_check.proofs.Kept.{Keeps}
+use Rattle.value_cert.specs.Kept.{Keeps}
 use Rattle.cert_check.proofs.LotChecks.{firsts}
 use Rattle.cert_check.proofs.LotOrders.{length_more}
 

@@ -3,7 +3,10 @@ use Rattle.std.proofs.Common.{◌≡◌, Some, subst}
 use Rattle.decision_model.specs.Valid.{IsValid}
 use Rattle.decision_model.specs.declared.instance.Instance.{Instance}
 use Rattle.decision_model.specs.declared.instance.Instance.TheVariants as instance
+use Rattle.finite_lemmas.specs.SolvedKept.{solved_breaks_nothing}
+use Rattle.finite_recursion.specs.SolvedSizes.{solved_has_text}
 use Rattle.lot_lemmas.specs.LotSolved.{has_text}
+use Rattle.value_cert.specs.FiniteRules.{solved_finite}
 use Rattle.value_cert.specs.LotRecursion.{solved_lots}
 use Rattle.value_cert.specs.Meaning.{Certifies, solved_cert}
 use Rattle.value_cert.specs.NewsRules.{solved_news}
@@ -13,7 +16,8 @@ use Rattle.value_cert.specs.Texts.{cert_lines, HasText}
 use Rattle.value_cert.specs.declared.cert.Cert.{Cert}
 use Rattle.value_cert.specs.declared.cert.Cert.TheVariants as cert
 use Rattle.cert_check.specs.Meaning.{IsTyped}
-use Rattle.cert_check.proofs.Kept.{Keeps}
+use Rattle.value_cert.specs.Kept.{Keeps}
+use Rattle.cert_check.proofs.ProvenFinite.{finite_certifies}
 use Rattle.cert_check.proofs.ProvenLots.{lots_certifies, solved_lots_keeps}
 use Rattle.cert_check.proofs.ProvenNews.{news_certifies, solved_news_keeps, solved_news_text}
 
@@ -25,6 +29,7 @@ none_kept c kept = let broken = kept.0 in cc
 pub certifies_by : (item : Instance) (c : Cert) → IsValid item → HasText c → Keeps (rules_of item) (rules_of item).nothing (cert_lines c) → Certifies item c
 certifies_by (instance.News item) c valid has kept = news_certifies item c kept
 certifies_by (instance.Lots item) c valid has kept = lots_certifies item c valid.readable has kept
+certifies_by (instance.Finite item) c valid has kept = finite_certifies item c valid kept
 certifies_by _ c valid has kept = absurd (none_kept c kept)
 
 -- the solver's certificate has a text, and its lines break no rule
@@ -41,4 +46,8 @@ solved_is_kept (instance.Lots item) c valid typed solved =
     let same : cert.Lots (solved_lots item) ≡ c = cc in
     let P : Cert → Type 0 = λ own. IsKept (instance.Lots item) own in
     subst P same (record { has = has_text item valid; keeps = solved_lots_keeps item valid })
+solved_is_kept (instance.Finite item) c valid typed solved =
+    let same : cert.Finite (solved_finite item) ≡ c = cc in
+    let P : Cert → Type 0 = λ own. IsKept (instance.Finite item) own in
+    subst P same (record { has = solved_has_text item valid; keeps = solved_breaks_nothing item valid.regular.readable })
 solved_is_kept _ c valid typed solved = cc

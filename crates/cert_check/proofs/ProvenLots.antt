@@ -16,7 +16,7 @@ use Rattle.value_cert.specs.declared.line.CertLine.{CertLine}
 use Rattle.cert_check.specs.Answers.{AnswersLine}
 use Rattle.cert_check.specs.LotsChecks.{KnowsPlan, KnowsLots}
 use Rattle.cert_check.specs.declared.lots.LotsCheck.{LotsCheck}
-use Rattle.cert_check.proofs.Kept.{Keeps, known_of-more}
+use Rattle.value_cert.specs.Kept.{Keeps, known_of-more}
 use Rattle.cert_check.proofs.LotLines.{rules_by_lines, lines_by_rules}
 
 pub lots_answers : (item : Instance) (before : List CertLine) (line : CertLine) (old new : LotsCheck) (answer : Option ℕ)

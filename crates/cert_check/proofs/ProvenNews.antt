@@ -24,7 +24,7 @@ use Rattle.value_cert.specs.declared.line.CertLine.{CertLine}
 use Rattle.cert_check.specs.Answers.{AnswersLine}
 use Rattle.cert_check.specs.NewsChecks.{KnowsNews}
 use Rattle.cert_check.specs.declared.news.NewsCheck.{NewsCheck}
-use Rattle.cert_check.proofs.Kept.{Keeps, known_of-more}
+use Rattle.value_cert.specs.Kept.{Keeps, known_of-more}
 use Rattle.cert_check.proofs.Levels.{above_none}
 
 -- ---- the answers

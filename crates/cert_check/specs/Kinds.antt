@@ -2,6 +2,7 @@
 use Rattle.std.specs.Prelude.{List}
 use Rattle.decision_model.specs.declared.instance.Instance.{Instance}
 use Rattle.value_cert.specs.declared.line.CertLine.{CertLine}
+use Rattle.cert_check.specs.FiniteChecks.{KnowsFinite}
 use Rattle.cert_check.specs.LaterChecks.{KnowsLater}
 use Rattle.cert_check.specs.LotsChecks.{KnowsLots}
 use Rattle.cert_check.specs.NewsChecks.{KnowsNews}
@@ -12,4 +13,5 @@ use Rattle.cert_check.specs.declared.kind_check.KindCheck.TheVariants as kind
 abbrev pub KnowsKind : KindCheck → Instance → List CertLine → Type 0
 KnowsKind (kind.News rules) instance lines = KnowsNews rules instance lines
 KnowsKind (kind.Lots rules) instance lines = KnowsLots rules instance lines
+KnowsKind (kind.Finite rules) instance lines = KnowsFinite rules instance lines
 KnowsKind (kind.Later rules) instance lines = KnowsLater rules instance lines

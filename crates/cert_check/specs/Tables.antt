@@ -1,16 +1,15 @@
 -- How much room a check needs: a room a kind.
-use Rattle.std.specs.Prelude.{ℕ, ◌+◌, ◌*◌, min, length, Option, Some, None}
+use Rattle.std.specs.Prelude.{ℕ, ◌+◌, ◌*◌, length}
 use Rattle.demand_law.specs.Law.{greatest_of}
-use Rattle.demand_law.specs.Sequences.{greatest_in}
 use Rattle.decision_model.specs.declared.instance.Instance.{Instance}
 use Rattle.decision_model.specs.declared.instance.Instance.TheVariants.{News, Lots, Finite, Average, Serial}
 use Rattle.decision_model.specs.declared.lots.LotSize.{LotSize}
 use Rattle.decision_model.specs.declared.finite.Finite.{Finite as FiniteHorizon}
 use Rattle.decision_model.specs.declared.average.Average.{Average as AverageCost}
 use Rattle.decision_model.specs.declared.serial.Serial.{Serial as SerialSystem}
-use Rattle.decision_model.specs.Finite.{finite_positions}
 use Rattle.decision_model.specs.Average.{average_positions}
 use Rattle.decision_model.specs.Serial.{serial_positions}
+use Rattle.finite_recursion.specs.Tables.{lead_sums, cells_needed, sums_needed}
 use Rattle.cert_check.specs.declared.tables.Room.{Room}
 
 abbrev pub no_room : Room
@@ -20,19 +19,11 @@ no_room = record { cells = 0; sums = 0 }
 abbrev pub lots_room : LotSize → Room
 lots_room lots = record { cells = length lots.demand; sums = 0 }
 
--- two sums for each demand that a lead time's periods and one more can have together
-abbrev pub lead_sums : ℕ → ℕ → ℕ
-lead_sums lead greatest = 2 * ((lead + 1) * greatest + 1)
-
--- two cells for each position that an order of the greatest size can pass, where orders have one
-abbrev pub capacity_cells : Option ℕ → ℕ → ℕ
-capacity_cells None positions = 0
-capacity_cells (Some most) positions = 2 * min most positions
-
+-- what the recursion works in
 abbrev pub finite_room : FiniteHorizon → Room
 finite_room finite = record {
-  cells = 2 * finite_positions finite + capacity_cells finite.most (finite_positions finite);
-  sums = lead_sums finite.lead (greatest_in finite.laws);
+  cells = cells_needed finite;
+  sums = sums_needed finite;
 }
 
 abbrev pub average_room : AverageCost → Room

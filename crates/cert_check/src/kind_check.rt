@@ -1,8 +1,9 @@
 // The rules of the instance's kind.
 ghost use Rattle.std.specs.Prelude.{◌≡◌, [], length};
 ghost use Rattle.decision_model.specs.Valid.{IsValid};
-ghost use Rattle.cert_check.specs.Tables.{cell_count};
+ghost use Rattle.cert_check.specs.Tables.{cell_count, sum_count};
 
+use crate::finite::FiniteCheck;
 use crate::kind_rules::KindRules;
 use crate::later::LaterRules;
 use crate::lots::LotsCheck;
@@ -15,6 +16,7 @@ use value_cert::CertLine;
 pub(crate) enum KindCheck<'a> {
     News(NewsCheck<'a>),
     Lots(LotsCheck<'a>),
+    Finite(FiniteCheck<'a>),
     Later(LaterRules),
 }
 
@@ -24,6 +26,7 @@ macro_rules! of_kind {
         match $check {
             KindCheck::News($rules) => $answer,
             KindCheck::Lots($rules) => $answer,
+            KindCheck::Finite($rules) => $answer,
             KindCheck::Later($rules) => $answer,
         }
     };
@@ -32,19 +35,21 @@ macro_rules! of_kind {
 impl<'a> KindCheck<'a> {
     ghost use Rattle.cert_check.specs.Kinds.{KnowsKind};
 
-    /// The rules of the instance's kind, behind no line. No kind needs the sums so far.
+    /// The rules of the instance's kind, behind no line.
     pub(crate) fn new(
         instance: &'a Instance,
         cells: &'a mut [i128],
-        _sums: &'a mut [u128],
+        sums: &'a mut [u128],
     ) -> KindCheck<'a>
         requires valid { IsValid instance.now }
         requires cells { length cells.old ≡ cell_count instance.now }
+        requires sums { length sums.old ≡ sum_count instance.now }
         ensures { KnowsKind result instance.now [] }
     {
         match instance {
             Instance::News(newsvendor) => KindCheck::News(NewsCheck::new(newsvendor)),
             Instance::Lots(lots) => KindCheck::Lots(LotsCheck::new(lots, cells)),
+            Instance::Finite(finite) => KindCheck::Finite(FiniteCheck::new(finite, cells, sums)),
             _ => KindCheck::Later(LaterRules),
         }
     }

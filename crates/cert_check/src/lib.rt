@@ -3,6 +3,9 @@
 #![tactic(auto)]
 
 mod check;
+mod finite;
+#[cfg(test)]
+mod finite_tests;
 mod kind_check;
 mod kind_rules;
 mod later;

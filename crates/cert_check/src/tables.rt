@@ -1,12 +1,13 @@
 // How much room a check needs.
-ghost use Rattle.std.specs.Prelude.{◌≡◌, ◌≤◌};
+ghost use Rattle.std.specs.Prelude.{◌≡◌};
 ghost use Rattle.decision_model.specs.Finite.{IsValidFinite};
 ghost use Rattle.decision_model.specs.Average.{IsValidAverage};
 ghost use Rattle.decision_model.specs.Serial.{IsValidSerial};
 ghost use Rattle.decision_model.specs.Valid.{IsValid};
-ghost use Rattle.cert_check.specs.Tables.{lots_room, lead_sums, finite_room, average_room, serial_room, room_of, cell_count, sum_count};
+ghost use Rattle.cert_check.specs.Tables.{lots_room, finite_room, average_room, serial_room, room_of, cell_count, sum_count};
 
 use decision_model::{Average, Finite, Instance, LotSize, Serial};
+use finite_recursion::lead_sums;
 
 // How many cells and how many sums of weights a check works in.
 #[derive(Clone, Copy)]
@@ -25,34 +26,13 @@ fn lots_room(lots: &LotSize) -> Room
     }
 }
 
-// Two sums for each demand that a lead time's periods and one more can have together.
-fn lead_sums(lead: u32, greatest: u32) -> usize
-    requires lead { lead ≤ 8 }
-    requires greatest { greatest ≤ 10000 }
-    ensures { result ≡ lead_sums lead greatest }
-{
-    2 * ((lead as usize + 1) * greatest as usize + 1)
-}
-
-// Two rows over the grid, and two of as many cells as an order of the greatest size can pass.
-fn finite_cells(finite: &Finite) -> usize
-    requires { IsValidFinite finite.now }
-    ensures { result ≡ (finite_room finite.now).cells }
-{
-    let positions = finite.positions() as usize;
-    match finite.most {
-        Some(most) => 2 * positions + 2 * (most as usize).min(positions),
-        None => 2 * positions,
-    }
-}
-
 fn finite_room(finite: &Finite) -> Room
     requires { IsValidFinite finite.now }
     ensures { result ≡ finite_room finite.now }
 {
     Room {
-        cells: finite_cells(finite),
-        sums: lead_sums(finite.lead, finite.laws.greatest()),
+        cells: finite_recursion::cells_of(finite),
+        sums: finite_recursion::sums_of(finite),
     }
 }
 

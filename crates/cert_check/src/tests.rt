@@ -1,11 +1,12 @@
 // Certificates of one newsvendor, worked by hand: whole, damaged, and fed line by line.
-ghost use Rattle.std.specs.Prelude.{ℕ, IfOk, IfSome};
+ghost use Rattle.std.specs.Prelude.{◌≡◌, ℕ, IfOk, IfSome, false};
+ghost use Rattle.decision_model.specs.Average.{IsReadableAverage};
 ghost use Rattle.decision_model.specs.DemandLaws.{AreDemandLaws};
 ghost use Rattle.decision_model.specs.Finite.{IsReadableFinite, IsMostOrder};
 ghost use Rattle.decision_model.specs.Valid.{IsValid};
 
 use crate::{Check, TextCheck, Verdict, cells_of, sums_of, verdict};
-use decision_model::{Finite, Instance, Kind, Laws, grid_fits, width_ok};
+use decision_model::{Average, Finite, Instance, Kind, Laws, grid_fits, has_demand, width_ok};
 use demand_law::Law;
 use newsvendor::Newsvendor;
 use std::alloc::Global;
@@ -256,8 +257,29 @@ fn rooms(rt: HostRuntime) -> Result<(), Fail> {
     Ok(())
 }
 
-fn verdict_on_periods(rt: &impl Abort, alloc: Global, text: &str) -> Result<Verdict, Fail> {
-    let instance = Instance::Finite(two_periods(alloc, None)?);
+// Demand is 0 or 1, and the law serves every period.
+fn endless(alloc: Global) -> Result<Average, Fail>
+    ensures readable { IfOk result IsReadableAverage }
+    ensures any_demand { IfOk result (λ average. average.lots ≡ false) }
+{
+    let law = Law::from_points(alloc, &[(0, 1), (1, 1)])?;
+    let _weights = law.weights();
+    Ok(Average {
+        lead: 0,
+        setup: 1,
+        holding: 1,
+        stockout: 3,
+        law,
+        floor: -1,
+        cap: 1,
+        lots: false,
+    })
+}
+
+fn verdict_on_endless(rt: &impl Abort, alloc: Global, text: &str) -> Result<Verdict, Fail> {
+    let average = endless(alloc)?;
+    assert!(rt; has_demand(&average));
+    let instance = Instance::Average(average);
     assert!(rt; grid_fits(&instance));
     assert!(rt; width_ok(&instance));
     Ok(verdict(alloc, &instance, text.as_bytes())?)
@@ -267,13 +289,13 @@ fn verdict_on_periods(rt: &impl Abort, alloc: Global, text: &str) -> Result<Verd
 #[test]
 fn later_kinds(rt: HostRuntime) -> Result<(), Fail> {
     let rows = [
-        ("certificate 1 finite\n", 2),
+        ("certificate 1 average\n", 2),
         ("certificate 1 newsvendor\n", 2),
         ("x\n", 1),
     ];
     for (text, rule) in rows {
         assert_eq!(rt;
-            verdict_on_periods(&rt, rt.alloc(), text)?,
+            verdict_on_endless(&rt, rt.alloc(), text)?,
             rejected(1, rule),
             "{text}"
         );

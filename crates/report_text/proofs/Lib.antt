@@ -1,2 +1,4 @@
 pub mod Lines
 pub mod PeriodLaws
+mod PeriodShapes
+mod PeriodLevels

@@ -4,8 +4,10 @@ use Rattle.decision_model.specs.declared.instance.Instance.{Instance}
 use Rattle.value_cert.specs.PrintedCost.{printed_cost_text}
 use Rattle.value_cert.specs.declared.cert.Cert.{Cert}
 use Rattle.value_cert.specs.declared.cert.Cert.TheVariants as cert
+use Rattle.report_text.specs.Finite.{shapes_lines}
 use Rattle.report_text.specs.Lots.{plan_lines}
 use Rattle.report_text.specs.News.{level_lines}
+use Rattle.report_text.specs.Serial.{levels_lines}
 
 -- the lines of a cost, and of what it is
 abbrev pub cost_lines : List ℕ → List ℕ
@@ -15,6 +17,8 @@ cost_lines cost = codes "cost " ++ cost ++ codes "\noptimal\n"
 abbrev pub policy_lines : Cert → List ℕ
 policy_lines (cert.News c) = level_lines c.q
 policy_lines (cert.Lots c) = plan_lines c.orders
+policy_lines (cert.Finite c) = shapes_lines c.rows
+policy_lines (cert.Serial c) = levels_lines c.periods
 policy_lines _ = []
 
 -- the report of an instance and a certificate for it

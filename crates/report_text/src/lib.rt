@@ -16,5 +16,7 @@ mod serial;
 
 pub use demand::{demand_text, has_laws};
 pub use faults::{Fault, fault_text};
+pub use finite::shapes_go_by_periods;
 pub use help::help_text;
 pub use reports::report;
+pub use serial::levels_go_by_periods;

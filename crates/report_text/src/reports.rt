@@ -6,7 +6,7 @@ ghost use Rattle.value_cert.specs.Meaning.{Certifies};
 ghost use Rattle.value_cert.specs.Texts.{HasText};
 ghost use Rattle.report_text.specs.Reports.{cost_lines, policy_lines, report_of};
 
-use crate::{lots, news};
+use crate::{finite, lots, news, serial};
 use decision_model::Instance;
 use fraction128::{Frac, Memory, Text};
 use std::alloc::Global;
@@ -28,7 +28,9 @@ fn push_policy(out: &mut Text, cert: &Cert) -> Result<(), Memory>
     match cert {
         Cert::News(cert) => news::push_policy(out, cert),
         Cert::Lots(cert) => lots::push_policy(out, cert),
-        Cert::Finite(_) | Cert::Average(_) | Cert::Serial(_) => Ok(()),
+        Cert::Finite(cert) => finite::push_policy(out, cert),
+        Cert::Average(_) => Ok(()),
+        Cert::Serial(cert) => serial::push_policy(out, cert),
     }
 }
 

@@ -14,3 +14,4 @@ IsBuilt instance = IsSome (solved_cert instance)
 abbrev pub instance_of : Solver → Instance
 instance_of (solver.News newsvendor) = instance.News newsvendor.now
 instance_of (solver.Lots lots) = instance.Lots lots.now
+instance_of (solver.Finite finite) = instance.Finite finite.now

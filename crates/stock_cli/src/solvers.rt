@@ -5,7 +5,8 @@ ghost use Rattle.value_cert.specs.Meaning.{Certifies, solved_cert};
 ghost use Rattle.value_cert.specs.Texts.{HasText};
 ghost use Rattle.stock_cli.specs.Solvers.{IsBuilt, instance_of};
 
-use decision_model::{Instance, LotSize};
+use decision_model::{Finite, Instance, LotSize};
+use finite_ss::solve_finite;
 use fraction128::Memory;
 use instance_json::InstanceFault;
 use newsvendor::{Newsvendor, solve_newsvendor};
@@ -19,6 +20,7 @@ use wagner_whitin::solve_lots;
 pub enum Solver<'a> {
     News(&'a Newsvendor),
     Lots(&'a LotSize),
+    Finite(&'a Finite),
 }
 
 /// What solves an instance. Here alone a kind whose solver isn't built is told apart.
@@ -30,7 +32,8 @@ pub fn solver_of(instance: &Instance) -> Result<Solver<'_>, Fault>
     match instance {
         Instance::News(newsvendor) => Ok(Solver::News(newsvendor)),
         Instance::Lots(lots) => Ok(Solver::Lots(lots)),
-        Instance::Finite(_) | Instance::Average(_) | Instance::Serial(_) => {
+        Instance::Finite(finite) => Ok(Solver::Finite(finite)),
+        Instance::Average(_) | Instance::Serial(_) => {
             Err(Fault::Instance(InstanceFault::NotBuilt))
         }
     }
@@ -47,6 +50,7 @@ impl Solver<'_> {
         match self {
             Solver::News(newsvendor) => Ok(Cert::News(solve_newsvendor(newsvendor))),
             Solver::Lots(lots) => Ok(Cert::Lots(solve_lots(alloc, lots)?)),
+            Solver::Finite(finite) => Ok(Cert::Finite(solve_finite(alloc, finite)?)),
         }
     }
 }

@@ -1,6 +1,7 @@
 -- What certificates for an instance are held against: the one dispatch over its kind.
 use Rattle.decision_model.specs.declared.instance.Instance.{Instance}
-use Rattle.decision_model.specs.declared.instance.Instance.TheVariants.{News, Lots}
+use Rattle.decision_model.specs.declared.instance.Instance.TheVariants.{News, Lots, Finite}
+use Rattle.value_cert.specs.FiniteRules.{finite_standard}
 use Rattle.value_cert.specs.LotsRules.{lots_standard}
 use Rattle.value_cert.specs.NewsRules.{news_standard}
 use Rattle.value_cert.specs.Rules.{Rules}
@@ -9,6 +10,7 @@ use Rattle.value_cert.specs.Standard.{Standard, unbuilt}
 abbrev pub standard_of : Instance → Standard
 standard_of (News newsvendor) = news_standard newsvendor
 standard_of (Lots lots) = lots_standard lots
+standard_of (Finite finite) = finite_standard finite
 standard_of _ = unbuilt
 
 -- the rules of the instance's kind

@@ -1,11 +1,13 @@
 // The cost that a solve prints.
 ghost use Rattle.std.specs.Prelude.{◌≡◌, ◌≤◌, ◌^◌, pos, sum};
 ghost use Rattle.fraction128.specs.Reduced.{lowest_num, lowest_den};
+ghost use Rattle.decision_model.specs.Valid.{IsValid};
 ghost use Rattle.value_cert.specs.Meaning.{Certifies};
 ghost use Rattle.value_cert.specs.PrintedCost.{printed_num, printed_den};
 ghost use Rattle.value_cert.specs.Texts.{HasText};
 
 use crate::cert::Cert;
+use crate::finite;
 use crate::lots::LotCert;
 use decision_model::Instance;
 use fraction128::Frac;
@@ -30,8 +32,10 @@ fn plan_cost(cert: &LotCert) -> Frac
 }
 
 /// The cost that a solve prints of an instance and its certificate, in lowest terms: of a newsvendor the certificate's
-/// cost over the sum of the law's weights, of a lot plan its cost.
+/// cost over the sum of the law's weights, of a lot plan its cost, of a finite horizon the value of the start in the first
+/// period over the sum of weights and the discount's denominator, once for each period.
 pub fn cost_of(instance: &Instance, cert: &Cert) -> Frac
+    requires valid { IsValid instance.now }
     requires certified { Certifies instance.now cert.now }
     requires text { HasText cert.now }
     ensures num { result.num ≡ printed_num instance.now cert.now }
@@ -40,6 +44,7 @@ pub fn cost_of(instance: &Instance, cert: &Cert) -> Frac
     match (instance, cert) {
         (Instance::News(newsvendor), Cert::News(cert)) => level_cost(newsvendor, cert),
         (Instance::Lots(_), Cert::Lots(cert)) => plan_cost(cert),
+        (Instance::Finite(finite), Cert::Finite(cert)) => finite::policy_cost(finite, cert),
         _ => Frac::whole(0),
     }
 }
