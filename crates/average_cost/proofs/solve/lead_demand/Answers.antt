@@ -1,0 +1,5 @@
+use Rattle.average_cost.proofs.SolveFacts.{lead_known}
+use Rattle.average_cost.proofs.solve.lead_demand.Goals as goal
+
+pub returns-in-Ok : goal.returns-in-Ok
+returns-in-Ok c = lead_known c.args.item.now c.in-Ok.law c.from_ref.result.now c.from_ref.ensures.value c.in-Ok.ensures.is_sum

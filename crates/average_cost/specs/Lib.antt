@@ -1,0 +1,4 @@
+pub mod Moves
+pub mod Grids
+pub mod Turns
+pub mod Cells
