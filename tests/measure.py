@@ -63,6 +63,38 @@ def months_each(lead):
     return year
 
 
+def grid(positions, **more):
+    """A grid of a size, with two demands."""
+    return {"kind": "finite", "periods": 20, "setup": 30, "holding": 1, "stockout": 9,
+            "demand": {"points": [[0, 1], [1, 1]]}, "cap": positions - 21, "start": 0, **more}
+
+
+def capacity(positions):
+    return grid(positions, most=positions // 8)
+
+
+def demands(count):
+    """Each demand from 0 on has a weight."""
+    return {"kind": "finite", "periods": 2, "setup": 500, "unit": 1, "holding": 1, "stockout": 9,
+            "demand": {"uniform": [0, count - 1]}, "cap": 4000 - 2 * count, "start": 0}
+
+
+def sparse_demands(count):
+    """Four demands have a weight, however great the greatest is."""
+    points = [[count * part // 4, 1] for part in range(1, 5)]
+    return {**demands(count), "demand": {"points": points}}
+
+
+def horizon(periods, **more):
+    return {"kind": "finite", "periods": periods, "lead": 2, "setup": 30, "holding": 1, "stockout": 9,
+            "demand": {"points": [[0, 1], [1, 2], [2, 1]]}, "cap": 1000 - 2 * periods, "start": 0, **more}
+
+
+def horizon_each(periods):
+    law = horizon(periods)["demand"]
+    return horizon(periods, demand=[law] * (periods + 2))
+
+
 # The rows: name, command, instance of a size, and the three sizes.
 ROWS = [
     ("`solve`, newsvendor of 2,500, 5,000, 10,000 points", "solve", newsvendor, (2500, 5000, 10000)),
@@ -73,6 +105,17 @@ ROWS = [
     ("`check`, steady lots of 500, 1,000, 2,000 periods", "check", steady_lots, (500, 1000, 2000)),
     ("`check`, varied lots of 500, 1,000, 2,000 periods", "check", varied_lots, (500, 1000, 2000)),
     ("`check`, single lots of 500, 1,000, 2,000 periods", "check", single_lots, (500, 1000, 2000)),
+    ("`solve`, finite of 5,000, 10,000, 20,000 positions", "solve", grid, (5000, 10000, 20000)),
+    ("`certify`, finite of 5,000, 10,000, 20,000 positions", "certify", grid, (5000, 10000, 20000)),
+    ("`check`, finite of 5,000, 10,000, 20,000 positions", "check", grid, (5000, 10000, 20000)),
+    ("`solve`, the same with an order capacity", "solve", capacity, (5000, 10000, 20000)),
+    ("`check`, the same with an order capacity", "check", capacity, (5000, 10000, 20000)),
+    ("`solve`, finite of 100, 200, 400 demands on 4,000 positions", "solve", demands, (100, 200, 400)),
+    ("`check`, finite of 100, 200, 400 demands on 4,000 positions", "check", demands, (100, 200, 400)),
+    ("`solve`, four demands up to 100, 200, 400", "solve", sparse_demands, (100, 200, 400)),
+    ("`solve`, finite of 10, 20, 40 periods, one law, lead time 2", "solve", horizon, (10, 20, 40)),
+    ("`solve`, finite of 10, 20, 40 periods, a law each", "solve", horizon_each, (10, 20, 40)),
+    ("`check`, finite of 10, 20, 40 periods, one law, lead time 2", "check", horizon, (10, 20, 40)),
     ("reading 28, 56, 112 laws of 10,001 demands", "solve", wide_laws, (28, 56, 112)),
     ("`demand`, lead time 8, greatest demand 100, 200, 400", "demand", long_lead, (100, 200, 400)),
     ("`demand`, one law for 12 months, lead time 0, 2, 4", "demand", months, (0, 2, 4)),

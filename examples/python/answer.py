@@ -20,7 +20,7 @@ def main():
         return getattr(error, "status", 3)
     print("kind:", answer.kind)
     for line in answer.policy:
-        print("policy:", ", ".join("%s %d" % pair for pair in line.items()))
+        print("policy:", ", ".join("%s %s" % pair for pair in line.items()))
     print("cost: %s = %.4f" % (answer.cost, answer.cost))
     print("certificate:", "accepted" if verdict.accepted else "rejected")
     return 0

@@ -1,6 +1,7 @@
 #!/usr/bin/env python3
-"""Draws the expected cost of each order-up-to level of a newsvendor, or the order and the stock of each period of a
-lot plan: with matplotlib where it is there, else as bars of text, which `--text` asks for.
+"""Draws the expected cost of each order-up-to level of a newsvendor, the order and the stock of each period of a lot
+plan, or the highest position of each period of a finite horizon that orders and where it orders up to: with matplotlib
+where it is there, else as bars of text, which `--text` asks for.
 
     python3 examples/python/draw.py [--text] examples/newsvendor-bakery.json
 """
@@ -30,6 +31,15 @@ def stocks(orders, demand):
     return ends
 
 
+def highest_orders(policy):
+    """Of each period the highest position that orders and where it orders up to; None where the period doesn't order."""
+    found = []
+    for line in policy:
+        position = line["s"] if "s" in line else max(line["orders"], default=None)
+        found.append((None, None) if position is None else (position, stockreader.order_up_to(line, position)))
+    return found
+
+
 def series_of(instance):
     """What is drawn: the title, the name of the places, and for each series its name, its first place and its values."""
     answer = stockreader.solve(instance)
@@ -38,6 +48,10 @@ def series_of(instance):
         level = answer.policy[0]["order-up-to"]
         title = "Expected cost of each level; least at %d, %s" % (level, cost)
         return title, "level", [("cost", 0, level_costs(instance))]
+    if answer.kind == "finite":
+        found = highest_orders(answer.policy)
+        return "Finite horizon, " + cost, "period", [
+            ("orders at", 1, [at for at, _ in found]), ("orders up to", 1, [to for _, to in found])]
     orders = [line["order"] for line in answer.policy]
     return "Lot plan, " + cost, "period", [
         ("order", 1, orders), ("stock at the end", 1, stocks(orders, instance["demand"]))]
@@ -47,15 +61,17 @@ def bars(title, place, series):
     print(title)
     for name, first, values in series:
         print("%s: %s" % (place, name))
-        most = max(values) or 1
+        most = max((value for value in values if value is not None and value > 0), default=1)
         for index, value in enumerate(values, first):
+            if value is None:
+                continue
             line = "%4d %9.2f %s" % (index, value, "#" * round(WIDTH * value / most))
             print(line.rstrip())
 
 
 def picture(plot, title, place, series):
     for name, first, values in series:
-        plot.step(range(first, first + len(values)), [float(value) for value in values], where="mid", label=name)
+        plot.step(range(first, first + len(values)), [float("nan") if value is None else float(value) for value in values], where="mid", label=name)
     plot.title(title)
     plot.xlabel(place)
     plot.legend()

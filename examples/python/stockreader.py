@@ -19,7 +19,8 @@ from fractions import Fraction
 HERE = os.path.dirname(os.path.abspath(__file__))
 PROGRAM = os.path.join(HERE, "..", "..", "stock")
 
-# The kind of the instance, the lines of the policy as dicts from a word to its number, and the exact cost.
+# The kind of the instance, the lines of the policy as dicts from a word to its number, and the exact cost. A period of a
+# finite horizon that is no pair has its orders as a dict from a position to the one that is ordered up to.
 Answer = namedtuple("Answer", "kind policy cost")
 
 # Whether a certificate is accepted; else the first line that breaks a rule, and the rule.
@@ -57,11 +58,32 @@ def pairs_of(line):
     return dict(zip(words[::2], map(int, words[1::2])))
 
 
+def policy_of(lines):
+    """The lines of a policy as dicts; the lines of a period's table are put together."""
+    policy = []
+    for line in lines:
+        words = line.split()
+        if words[0] == "at":
+            policy[-1]["orders"][int(words[1])] = int(words[3])
+        elif words[-1] in ("never", "table"):
+            policy.append({"period": int(words[1]), "orders": {}})
+        else:
+            policy.append(pairs_of(line))
+    return policy
+
+
 def solve(instance):
     """The optimal policy and its exact cost."""
     _, text = run(["solve"], instance)
     kind, *policy, cost, _ = text.splitlines()
-    return Answer(kind.split()[1], [pairs_of(line) for line in policy], Fraction(cost.split()[1]))
+    return Answer(kind.split()[1], policy_of(policy), Fraction(cost.split()[1]))
+
+
+def order_up_to(line, position):
+    """Where a period of a finite horizon's policy orders up to from a position; the position itself where it doesn't."""
+    if "s" in line:
+        return line["S"] if position <= line["s"] else position
+    return line["orders"].get(position, position)
 
 
 def certify(instance):
