@@ -31,7 +31,7 @@ use Rattle.average_cost.specs.declared.gain.Gain.{Gain}
 use Rattle.average_cost.specs.declared.gain.Lines.{Lines}
 use Rattle.average_cost.specs.declared.grid.Place.{Place}
 use Rattle.average_cost.specs.declared.grid.Terms.{Terms}
-use Rattle.average_cost.proofs.GridFacts.{line_fits, den_fits}
+use Rattle.average_lemmas.specs.PlaceSizes.{line_fits, den_fits}
 use Rattle.average_cost.proofs.KeepFacts.{keep_is}
 
 module _ (item : Average) (terms : Terms) (are : AreTerms item terms) (place : Place) (k : ℕ) (lt : k < average_positions item) (is : IsPlace item place k) (entries : List ℕ) (many : length entries ≡ k) where

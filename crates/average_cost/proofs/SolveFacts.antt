@@ -1,15 +1,12 @@
 -- The solver's parts.
-use Rattle.std.proofs.Common.{w64, to_z, of_z, ℤ, pos, ◌-ℤ◌, ◌≡◌, ℕ, zero, suc, ◌+◌, ◌-◌, ◌*◌, ◌^◌, ◌≤◌, List, [], ◌∷◌, map, sum, slice_index, refl, sym, ◌∙◌, ap, arith, add-one, pow-suc, mul-le-mul_left}
-use Rattle.demand_law.specs.LawSums.{law_of_sum-is}
-use Rattle.demand_law.specs.Sequences.{laws_at, law_at, law_of_sum, IsSumOf}
-use Rattle.demand_law.specs.SequenceSums.{laws_from-ext}
+use Rattle.std.proofs.Common.{w64, to_z, of_z, ℤ, pos, ◌-ℤ◌, ◌≡◌, ℕ, ◌-◌, ◌*◌, ◌^◌, ◌≤◌, List, map, sum, slice_index, refl, ◌∙◌, ap, arith, mul-le-mul_left}
 use Rattle.decision_model.specs.declared.average.Average.{Average}
-use Rattle.std.proofs.Math.Nat.{one-le-pow, pow-le-pow_right}
+use Rattle.std.proofs.Math.Nat.{one-le-pow}
 use Rattle.decision_model.specs.Average.{IsValidAverage, average_positions}
-use Rattle.decision_model.specs.WidthFacts.{average_positions_some, average_weights_fit}
+use Rattle.decision_model.specs.WidthFacts.{average_positions_some}
 use Rattle.value_cert.specs.AverageRules.{first_cheap, first_zero}
 use Rattle.value_cert.specs.AverageRules.{certificate_with, solved_average}
-use Rattle.value_cert.specs.AverageValues.{Ratio, at_place, lead_demand, moving, lower_entries, upper_entries, average_cost_of}
+use Rattle.value_cert.specs.AverageValues.{Ratio, at_place, moving, lower_entries, upper_entries, average_cost_of}
 use Rattle.value_cert.specs.declared.average.AverageCell.{AverageCell}
 use Rattle.std.proofs.lemmas.Int.{ints}
 use Rattle.std.specs.Prelude.{unsigned_abs}
@@ -17,51 +14,18 @@ use Rattle.std.specs.List.{range_with_len}
 use Rattle.average_cost.specs.Cells.{cell_at}
 use Rattle.average_lemmas.specs.Certified.{moving_some}
 use Rattle.average_lemmas.specs.SolvedAverage.{first_zero_is, first_cheap_is}
-use Rattle.average_lemmas.specs.Tables.{sum_first}
-use Rattle.average_cost.proofs.GridFacts.{power_fits, near_back}
+use Rattle.average_lemmas.specs.PlaceSizes.{power_fits, near_back}
 use Rattle.average_cost.proofs.LineFacts.{limit_most}
 use Rattle.average_cost.proofs.TableFacts.{cost_is, solved_is}
-
--- one law serves every place
-one_law : (law : List ℕ) (place : ℕ) → law_at (law ∷ []) place ≡ law
-one_law law zero = refl
-one_law law (suc place) = refl
-
--- the law of the lead time
-pub lead_known : (item : Average) (law : List ℕ) (laws : List (List ℕ)) → laws ≡ item.law ∷ [] → IsSumOf law (laws_at laws 0 (item.lead + 1)) → law ≡ lead_demand item
-unfolding lead_demand
-lead_known item law laws e is =
-    law_of_sum-is law (laws_at laws 0 (item.lead + 1)) is
-    ∙ ap (λ (all : List (List ℕ)). law_of_sum (laws_at all 0 (item.lead + 1))) e
-    ∙ ap (λ count. law_of_sum (laws_at (item.law ∷ []) 0 count)) (add-one item.lead)
-    ∙ ap law_of_sum (laws_from-ext (law_at (item.law ∷ [])) (λ t. item.law) 0 1 (suc item.lead) (λ k lt. one_law item.law (0 + k)))
 
 module _ (item : Average) (valid : IsValidAverage item) where
   abbrev n : ℕ
   n = average_positions item
 
-  weight_some : 1 ≤ sum item.law
-  weight_some = omega (arith, moving_some item.law valid.regular.has_demand, sum_first item.law)
-
-  all_weights : sum item.law ^ (2 * item.lead + 2) ≤ 2 ^ 120
-  all_weights = average_weights_fit item valid.regular.readable valid.regular.has_demand valid.width
-
-  pub weights_fit : sum item.law ^ item.lead ≤ 2 ^ 120
-  weights_fit = let le : item.lead ≤ 2 * item.lead + 2 = omega arith in omega (arith, all_weights, pow-le-pow_right {n = sum item.law} weight_some le)
-
-  pub unit_is : sum item.law ^ item.lead * sum item.law ≡ sum item.law ^ suc item.lead
-  unit_is = sym (pow-suc (sum item.law) item.lead)
-
-  pub unit_fits : sum item.law ^ item.lead * sum item.law ≤ 2 ^ 120
-  unit_fits = let le : suc item.lead ≤ 2 * item.lead + 2 = omega arith in omega (arith, unit_is, all_weights, pow-le-pow_right {n = sum item.law} weight_some le)
-
   pub below_fits : item.setup * sum item.law ^ item.lead ≤ 2 ^ 119
   below_fits =
       let power = one-le-pow 1 (sum (moving item.law)) (omega (arith, moving_some item.law valid.regular.has_demand)) in
       omega (arith, limit_most item valid 0 (average_positions_some item valid.regular.readable), mul-le-mul_left (item.setup * sum item.law ^ item.lead) power)
-
-  pub moving_is : sum item.law - slice_index item.law 0 ≡ sum (moving item.law)
-  moving_is = omega (arith, sum_first item.law)
 
   pub moving_fits : sum (moving item.law) ^ (n - 1) ≤ 2 ^ 119
   moving_fits = power_fits item valid (n - 1) (omega (arith, average_positions_some item valid.regular.readable))

@@ -29,7 +29,7 @@ use Rattle.average_cost.specs.Grids.{AreTerms, IsPlace}
 use Rattle.average_cost.specs.Moves.{keep_of}
 use Rattle.average_cost.specs.declared.grid.Place.{Place}
 use Rattle.average_cost.specs.declared.grid.Terms.{Terms}
-use Rattle.average_cost.proofs.GridFacts.{den_fits}
+use Rattle.average_lemmas.specs.PlaceSizes.{den_fits}
 use Rattle.average_cost.proofs.LineFacts.{keep_place, limit_by_g}
 
 -- the test of a period's cost as it is told

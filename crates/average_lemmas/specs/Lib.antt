@@ -23,3 +23,5 @@ pub mod OnlyAverage
 pub mod KeptRules
 pub mod SolvedAverage
 pub mod KeptSizes
+pub mod PlaceSizes
+pub mod LeadWeights

@@ -197,7 +197,7 @@ module _ (item : Average) (some_demand : HasDemand item.law) (n : ℕ) (all : it
       entries = entry_most (moving item.law) (item.setup * g.den * sum item.law ^ item.lead) ((average_cost_bound item - 1) * sum item.law ^ suc item.lead * g.den) k (λ j. stock_sum item (at_place item j) * g.den) a (λ j below. by_choice j (h j below)) (λ j below. costs_at j (omega arith)) k (omega arith)
 
       -- the most of a place, over g's denominator
-      most_fits : (p : ℕ) → p < n → item.setup * g.den * sum item.law ^ item.lead * sum (moving item.law) ^ suc p + suc p * ((average_cost_bound item - 1) * sum item.law ^ suc item.lead * g.den) * sum (moving item.law) ^ p ≤ half_width item n
+      pub most_fits : (p : ℕ) → p < n → item.setup * g.den * sum item.law ^ item.lead * sum (moving item.law) ^ suc p + suc p * ((average_cost_bound item - 1) * sum item.law ^ suc item.lead * g.den) * sum (moving item.law) ^ p ≤ half_width item n
       most_fits p below =
           let w = sum item.law in
           let v = sum (moving item.law) in

@@ -12,3 +12,4 @@ pub mod BestOrders
 pub mod OrderValues
 pub mod FoundFacts
 pub mod RowSteps
+pub mod WalkSteps

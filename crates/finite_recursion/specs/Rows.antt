@@ -2,7 +2,6 @@
 use Rattle.std.specs.Prelude.{◌≡◌, ℕ, zero, suc, ◌+◌, ◌-◌, ◌*◌, ◌<◌, ◌≤◌, min, ℤ, pos, ◌+ℤ◌, ◌-ℤ◌, ◌*ℤ◌, Option, None, Some, List, [], ◌∷◌, ◌++◌, length, take, drop, slice_index_or}
 use Rattle.demand_law.specs.Sequences.{greatest_in}
 use Rattle.decision_model.specs.declared.finite.Finite.{Finite}
-use Rattle.decision_model.specs.declared.walk.Walk.{Walk}
 use Rattle.decision_model.specs.Finite.{finite_positions}
 use Rattle.decision_model.specs.FiniteProblem.{law_of_period}
 use Rattle.decision_model.specs.Sweeps.{IsSweepOf}
@@ -105,8 +104,3 @@ pub record AreSmall (finite : Finite) (rows place : ℕ) (values costs : List �
 pub record IsFresh (finite : Finite) (place : ℕ) (values : List ℤ) : Type 0 where
   pub is_first : place ≡ 0
   pub ends : (k : ℕ) → k < row_width finite (suc finite.periods) → value_at values k ≡ end_value finite (finite.cap -ℤ pos k)
-
--- a walk stands at the position below the next place of a row, if the row has it
-pub record IsNextWalk (finite : Finite) (period place width : ℕ) (walk : Walk) : Type 0 where
-  pub is_walk : IsWalkOf walk finite.holding finite.stockout (lead_law finite period)
-  pub stands : place + 1 < width → place_of walk ≡ finite.cap -ℤ pos place -ℤ pos 1

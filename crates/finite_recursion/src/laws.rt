@@ -39,8 +39,8 @@ pub(crate) fn weights_of(finite: &Finite, period: u32) -> &[u128]
     }
 }
 
-// Lists the demands that have a weight, from the least up, and says how many they are.
-fn list_demands(weights: &[u128], listed: &mut [u128]) -> usize
+/// Lists the demands that have a weight, from the least up, and says how many they are.
+pub fn list_demands(weights: &[u128], listed: &mut [u128]) -> usize
     requires room { length weights.now ≤ length listed.old }
     ensures within { result ≤ length listed.new }
     ensures same { length listed.new ≡ length listed.old }

@@ -13,5 +13,6 @@ mod tables;
 #[cfg(test)]
 mod tests;
 
+pub use laws::list_demands;
 pub use recursion::{Found, Recursion};
 pub use tables::{cells_of, lead_sums, sums_of};

@@ -6,8 +6,8 @@ ghost use Rattle.finite_recursion.specs.Rows.{IsBegun, AreTables, AreSmall, IsFr
 use crate::costs::{choose, cost_with_units, order_value, total_cost, weigh};
 use crate::ends::end_row;
 use crate::laws::{HeldLaws, weights_of};
-use crate::row::{Kept, Row, keep_place, next_row, no_row, place_at, position_at};
-use decision_model::{Finite, Walk};
+use crate::row::{Kept, Row, keep_place, next_row, no_row, place_at, position_at, step_walk};
+use decision_model::Finite;
 
 /// What the recursion finds at a position: the cost of staying there, and the first position of least value with its value.
 #[derive(Clone, Copy, Debug)]
@@ -47,7 +47,7 @@ impl<'a> Recursion<'a> {
     ghost use Rattle.value_cert.specs.FiniteRules.{FirstRows, no_rows, named_values, is_row_whole, last_period};
     ghost use Rattle.value_cert.specs.FiniteValues.{cost_after, value_of, least_choice, row_width};
     ghost use Rattle.value_cert.specs.declared.line.CertLine.TheVariants.{Period, Value};
-    ghost use Rattle.finite_recursion.specs.Rows.{row_period, IsNextWalk};
+    ghost use Rattle.finite_recursion.specs.Rows.{row_period};
     ghost use Rattle.finite_recursion.specs.Tables.{cells_needed, sums_needed};
     ghost use Rattle.finite_recursion.specs.Sizes.{IsSmallStay, IsSmallValue};
     ghost use Rattle.finite_recursion.specs.Recursions.{finite_of, rows_of, place_of, is_whole, next_position, next_at, KnowsRows};
@@ -97,6 +97,7 @@ impl<'a> Recursion<'a> {
     }
 
     /// Whether the last row has all positions of its period, or there is none.
+    #[inline(always)]
     pub fn is_row_whole(&self) -> bool
         ensures known { (first : FirstRows) → KnowsRows self.now first → result ≡ is_row_whole (finite_of self.now) first }
         ensures whole { result ≡ is_whole self.now }
@@ -113,6 +114,7 @@ impl<'a> Recursion<'a> {
     }
 
     /// The next position of the row.
+    #[inline(always)]
     pub fn position(&self) -> i64
         requires left { is_whole self.now ≡ false }
         ensures known { (first : FirstRows) → KnowsRows self.now first → result ≡ next_at (finite_of self.now) first }
@@ -144,6 +146,7 @@ impl<'a> Recursion<'a> {
     }
 
     /// What is least at the next position, with the values of the next period.
+    #[inline(always)]
     pub fn find(&self) -> Found
         requires left { is_whole self.now ≡ false }
         ensures stay { (first : FirstRows) → KnowsRows self.now first →
@@ -163,6 +166,7 @@ impl<'a> Recursion<'a> {
     }
 
     // What staying at the next position costs.
+    #[inline(always)]
     fn stay(&self) -> i128
         requires left { is_whole self.now ≡ false }
         ensures exact { (first : FirstRows) → KnowsRows self.now first →
@@ -200,19 +204,8 @@ impl<'a> Recursion<'a> {
         order_value(&self.row.scales, at, cost)
     }
 
-    // The cost of stock at the position below the next one, if the row has it.
-    fn next_walk(&self) -> Walk
-        requires left { is_whole self.now ≡ false }
-        ensures { IsNextWalk (finite_of self.now) (row_period (finite_of self.now) (rows_of self.now)) self.now.row.place self.now.row.width result }
-    {
-        let mut walk = self.row.walk;
-        if self.row.place + 1 < self.row.width {
-            walk.down(&self.sums[..self.laws.lead]);
-        }
-        walk
-    }
-
     /// Keeps a value for the next position, and goes on to the one below.
+    #[inline(always)]
     pub fn keep(&mut self, found: &Found, value: i128)
         requires left { is_whole self.old ≡ false }
         requires stay { IsSmallStay (finite_of self.old) (rows_of self.old) found.now.stay }
@@ -228,8 +221,8 @@ impl<'a> Recursion<'a> {
             at: self.position(),
             stay: found.stay,
             value,
-            walk: self.next_walk(),
         };
         keep_place(&mut self.row, self.values, self.costs, self.room, &kept);
+        step_walk(&mut self.row, self.laws.lead, self.sums);
     }
 }

@@ -1,7 +1,8 @@
 // A row of the recursion.
-ghost use Rattle.std.specs.Prelude.{◌≡◌, ℕ, ℤ, suc, ◌+◌, ◌-◌, ◌^◌, ◌<◌, ◌≤◌, pos, ◌+ℤ◌, ◌-ℤ◌, ◌*ℤ◌, ◌≤ℤ◌, List, [], ◌∷◌, ◌++◌, length, slice_set, unsigned_abs, Option};
+ghost use Rattle.std.specs.Prelude.{◌≡◌, ℕ, ℤ, suc, ◌+◌, ◌-◌, ◌^◌, ◌<◌, ◌≤◌, pos, ◌+ℤ◌, ◌-ℤ◌, ◌*ℤ◌, ◌≤ℤ◌, List, [], ◌∷◌, ◌++◌, length, take, slice_set, unsigned_abs, Option};
 ghost use Rattle.decision_model.specs.Finite.{IsValidFinite, finite_positions};
-ghost use Rattle.decision_model.specs.Walks.{IsWalkOf, place_of};
+ghost use Rattle.decision_model.specs.Stock.{AreWeights, HasRoom};
+ghost use Rattle.decision_model.specs.Walks.{IsWalk, IsWalkOf, place_of, over_of, under_of};
 ghost use Rattle.value_cert.specs.FiniteValues.{lead_law, row_width};
 ghost use Rattle.finite_recursion.specs.Rows.{row_period, reach_room, IsReachOf, AreScales, HoldsLaws};
 ghost use Rattle.finite_recursion.specs.Tables.{capacity_cells, sums_needed};
@@ -137,8 +138,6 @@ pub(crate) struct Kept {
     // The cost of staying there.
     pub(crate) stay: i128,
     pub(crate) value: i128,
-    // The cost of stock at the position below, if the row has it.
-    pub(crate) walk: Walk,
 }
 
 // Keeps a value and the cost of staying for the next place of a row, and goes on to the place below.
@@ -165,7 +164,7 @@ pub(crate) fn keep_place(
     ensures width { row.new.width ≡ row.old.width }
     ensures place { row.new.place ≡ row.old.place + 1 }
     ensures scales { row.new.scales ≡ row.old.scales }
-    ensures walk { row.new.walk ≡ kept.now.walk }
+    ensures walk { row.new.walk ≡ row.old.walk }
     ensures reach { (most : Option ℕ) (positions : ℕ) (pairs : List (ℤ × ℤ)) → IsReachOf most positions row.old.reach room.old pairs →
         IsReachOf most positions row.new.reach room.new (pairs ++ (kept.now.at, kept.now.stay +ℤ row.old.scales.unit *ℤ kept.now.at) ∷ []) }
 {
@@ -174,5 +173,26 @@ pub(crate) fn keep_place(
     let cost = cost_with_units(kept.stay, row.scales.unit, kept.at);
     row.reach.push(room, kept.at, cost);
     row.place += 1;
-    row.walk = kept.walk;
+}
+
+// Goes on to the cost of stock at the next place, if the row has one. The sums, which hold the law of the lead time,
+// stay as they are.
+pub(crate) fn step_walk(row: &mut Row, lead: usize, sums: &mut [u128])
+    requires lead { lead ≤ length sums.old }
+    requires weights { AreWeights (take lead sums.old) }
+    requires stands { IsWalk row.old.walk (take lead sums.old) }
+    requires room { HasRoom (over_of row.old.walk) (under_of row.old.walk) (take lead sums.old) (place_of row.old.walk) }
+    requires next { row.old.place < row.old.width →
+        HasRoom (over_of row.old.walk) (under_of row.old.walk) (take lead sums.old) (place_of row.old.walk -ℤ pos 1) }
+    ensures same { sums.new ≡ sums.old }
+    ensures width { row.new.width ≡ row.old.width }
+    ensures place { row.new.place ≡ row.old.place }
+    ensures scales { row.new.scales ≡ row.old.scales }
+    ensures reach { row.new.reach ≡ row.old.reach }
+    ensures walk { (over under : ℕ) → IsWalkOf row.old.walk over under (take lead sums.old) → IsWalkOf row.new.walk over under (take lead sums.old) }
+    ensures stands { row.old.place < row.old.width → place_of row.new.walk ≡ place_of row.old.walk -ℤ pos 1 }
+{
+    if row.place < row.width {
+        row.walk.down(&sums[..lead]);
+    }
 }

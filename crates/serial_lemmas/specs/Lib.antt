@@ -18,3 +18,4 @@ pub mod PeriodsLeast
 pub mod SolvedKept
 pub mod BoundedValues
 pub mod SolvedTexts
+pub mod SolvedFronts

@@ -86,7 +86,7 @@ module _ (serial : Serial) (readable : IsReadableSerial serial) where
   sound = sound_readable serial readable
 
   -- each grid has a position
-  grid_some : (t : ℕ) → serial_low serial t ≤ℤ serial.cap
+  pub grid_some : (t : ℕ) → serial_low serial t ≤ℤ serial.cap
   grid_some t = below (serial_low serial t) (low_zero serial t)
     where
       below : (low : ℤ) → low ≤ℤ pos 0 → low ≤ℤ serial.cap
@@ -113,12 +113,12 @@ module _ (serial : Serial) (readable : IsReadableSerial serial) where
 
   -- ---- one period
   -- values that are the least ones on the grid of period t, where n periods are left
-  abbrev AreLeast : ℕ → ℕ → (ℕ → ℤ → ℤ) → Type 0
+  abbrev pub AreLeast : ℕ → ℕ → (ℕ → ℤ → ℤ) → Type 0
   AreLeast n t F = (i : ℕ) (x : ℤ) → i < length serial.holding → serial_low serial t ≤ℤ x → x ≤ℤ serial.cap → F i x ≡ solved_values serial n t i x
 
   module _ (F : ℕ → ℤ → ℤ) (n t : ℕ) (pt : 1 ≤ t) (are : AreLeast n (suc t) F) where
     -- their costs of orders are those of the least values
-    costs_are : (i : ℕ) → i < length serial.holding → (y : ℤ) → serial_low serial t ≤ℤ y → y ≤ℤ serial.cap → order_cost serial F n t i y ≡ solved_costs serial n t i y
+    pub costs_are : (i : ℕ) → i < length serial.holding → (y : ℤ) → serial_low serial t ≤ℤ y → y ≤ℤ serial.cap → order_cost serial F n t i y ≡ solved_costs serial n t i y
     costs_are i lt y from to = costs_same serial sound F (solved_values serial n (suc t)) n t i pt (λ x low high. are i x lt low high) y from to
 
     -- a level of the solver breaks no rule
@@ -128,7 +128,7 @@ module _ (serial : Serial) (readable : IsReadableSerial serial) where
         (turns_same (solved_costs serial n t i) (order_cost serial F n t i) (solved_level serial n t i) (serial_low serial t) serial.cap (λ y from to. sym (costs_are i lt y from to)) (solved_turns n t i pt))
 
     -- the least values are those of the levels
-    value_is : (i : ℕ) (L : ℕ → ℤ) (x : ℤ) → i < length serial.holding → ((j : ℕ) → j ≤ i → L j ≡ solved_level serial n t j) → serial_low serial t ≤ℤ x → x ≤ℤ serial.cap → solved_values serial (suc n) t i x ≡ echelon_value serial (order_cost serial F n t) L n t i x
+    pub value_is : (i : ℕ) (L : ℕ → ℤ) (x : ℤ) → i < length serial.holding → ((j : ℕ) → j ≤ i → L j ≡ solved_level serial n t j) → serial_low serial t ≤ℤ x → x ≤ℤ serial.cap → solved_values serial (suc n) t i x ≡ echelon_value serial (order_cost serial F n t) L n t i x
     value_is i L x lt same from to =
         sym (
         value_same serial (order_cost serial F n t) L (solved_level serial n t) n t i x same

@@ -1,5 +1,5 @@
 use Rattle.std.proofs.Common.{◌∙◌}
-use Rattle.average_cost.proofs.GridFacts.{room_first}
+use Rattle.average_lemmas.specs.PlaceSizes.{room_first}
 use Rattle.average_cost.proofs.grid.first_place.Goals as goal
 
 pub new-requires-clause-room : goal.new-requires-clause-room

@@ -1,5 +1,6 @@
 use Rattle.value_cert.specs.AverageValues.{at_place, stock_sum}
-use Rattle.average_cost.proofs.GridFacts.{place_cost, place_value, cast_fits}
+use Rattle.average_lemmas.specs.PlaceSizes.{place_cost, cast_fits}
+use Rattle.average_cost.proofs.GridFacts.{place_value}
 use Rattle.average_cost.proofs.grid.stock_at.Goals as goal
 
 pub overflow_cast-result : goal.overflow_cast-result

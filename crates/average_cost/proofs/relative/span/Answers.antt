@@ -1,9 +1,9 @@
 use Rattle.std.proofs.Common.{◌≡◌, ◌∙◌, ◌*◌, ap, arith, pos}
 use Rattle.fraction128.specs.Reduced.{lowest_num, lowest_den}
 use Rattle.value_cert.specs.AverageRules.{span_den}
-use Rattle.average_cost.proofs.SolveFacts.{weights_fit}
+use Rattle.average_lemmas.specs.LeadWeights.{weights_fit}
 use Rattle.average_cost.proofs.SpanSteps.{moving_is, places_fit, front_fits, small, setup_fits, den_some, den_told, num_told}
-use Rattle.average_cost.proofs.GridFacts.{read_back}
+use Rattle.average_lemmas.specs.PlaceSizes.{read_back}
 use Rattle.average_cost.proofs.relative.span.Goals as goal
 
 pub power-weights-requires : goal.power-weights-requires

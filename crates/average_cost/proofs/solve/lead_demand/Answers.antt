@@ -1,4 +1,4 @@
-use Rattle.average_cost.proofs.SolveFacts.{lead_known}
+use Rattle.average_lemmas.specs.LeadWeights.{lead_known}
 use Rattle.average_cost.proofs.solve.lead_demand.Goals as goal
 
 pub returns-in-Ok : goal.returns-in-Ok

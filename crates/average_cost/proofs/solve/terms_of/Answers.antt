@@ -2,7 +2,8 @@ use Rattle.std.proofs.Common.{◌≡◌, ◌∙◌, ◌-◌, ◌*◌, ◌^◌, s
 use Rattle.decision_model.specs.WidthFacts.{average_positions_some}
 use Rattle.value_cert.specs.AverageValues.{moving}
 use Rattle.average_cost.specs.Moves.{moves_upto}
-use Rattle.average_cost.proofs.SolveFacts.{weights_fit, unit_is, unit_fits, below_fits, moving_is, moving_fits}
+use Rattle.average_lemmas.specs.LeadWeights.{weights_fit, unit_is, unit_fits, moving_is}
+use Rattle.average_cost.proofs.SolveFacts.{below_fits, moving_fits}
 use Rattle.average_cost.proofs.solve.terms_of.Goals as goal
 
 pub power-weights-requires : goal.power-weights-requires

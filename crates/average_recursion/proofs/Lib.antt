@@ -1,0 +1,9 @@
+pub mod Known
+pub mod Counts
+pub mod Worths
+pub mod Numbers
+pub mod LawSums
+pub mod Places
+pub mod CellSteps
+pub mod GainSteps
+pub mod TestRows

@@ -1,0 +1,4 @@
+pub mod Steps
+pub mod CellLoop
+pub mod EchelonLoop
+pub mod PeriodLoop

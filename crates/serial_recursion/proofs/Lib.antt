@@ -1,0 +1,13 @@
+pub mod RateSums
+pub mod Known
+pub mod Places
+pub mod Turns
+pub mod Stocks
+pub mod Frames
+pub mod Period
+pub mod Rooms
+pub mod LevelPlaces
+pub mod Begins
+pub mod Begun
+pub mod PeriodSteps
+pub mod Facts
