@@ -10,7 +10,9 @@ pub mod ProvenNews
 pub mod ProvenLots
 pub mod FiniteLines
 pub mod ProvenFinite
-pub mod ProvenLater
+pub mod ProvenAverage
+pub mod SerialLines
+pub mod ProvenSerial
 pub mod ProvenKinds
 pub mod Checks
 pub mod Texts

@@ -5,7 +5,8 @@ pub mod NewsChecks
 pub mod LotCells
 pub mod LotsChecks
 pub mod FiniteChecks
-pub mod LaterChecks
+pub mod AverageChecks
+pub mod SerialChecks
 pub mod Kinds
 pub mod Checks
 pub mod Meaning

@@ -1,15 +1,14 @@
 -- How much room a check needs: a room a kind.
-use Rattle.std.specs.Prelude.{ℕ, ◌+◌, ◌*◌, length}
-use Rattle.demand_law.specs.Law.{greatest_of}
+use Rattle.std.specs.Prelude.{ℕ, length}
 use Rattle.decision_model.specs.declared.instance.Instance.{Instance}
 use Rattle.decision_model.specs.declared.instance.Instance.TheVariants.{News, Lots, Finite, Average, Serial}
 use Rattle.decision_model.specs.declared.lots.LotSize.{LotSize}
 use Rattle.decision_model.specs.declared.finite.Finite.{Finite as FiniteHorizon}
 use Rattle.decision_model.specs.declared.average.Average.{Average as AverageCost}
 use Rattle.decision_model.specs.declared.serial.Serial.{Serial as SerialSystem}
-use Rattle.decision_model.specs.Average.{average_positions}
-use Rattle.decision_model.specs.Serial.{serial_positions}
-use Rattle.finite_recursion.specs.Tables.{lead_sums, cells_needed, sums_needed}
+use Rattle.average_recursion.specs.Tables as of_average
+use Rattle.finite_recursion.specs.Tables.{cells_needed, sums_needed}
+use Rattle.serial_recursion.specs.Tables as of_serial
 use Rattle.cert_check.specs.declared.tables.Room.{Room}
 
 abbrev pub no_room : Room
@@ -28,12 +27,12 @@ finite_room finite = record {
 
 abbrev pub average_room : AverageCost → Room
 average_room average = record {
-  cells = 2 * average_positions average;
-  sums = lead_sums average.lead (greatest_of average.law);
+  cells = of_average.cells_needed average;
+  sums = of_average.sums_needed average;
 }
 
 abbrev pub serial_room : SerialSystem → Room
-serial_room serial = record { cells = (length serial.holding + 2) * serial_positions serial; sums = 0 }
+serial_room serial = record { cells = of_serial.cells_needed serial; sums = 0 }
 
 -- the room that a check of the instance's kind needs: the one dispatch over kinds
 abbrev pub room_of : Instance → Room

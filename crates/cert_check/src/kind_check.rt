@@ -3,11 +3,12 @@ ghost use Rattle.std.specs.Prelude.{◌≡◌, [], length};
 ghost use Rattle.decision_model.specs.Valid.{IsValid};
 ghost use Rattle.cert_check.specs.Tables.{cell_count, sum_count};
 
+use crate::average::AverageCheck;
 use crate::finite::FiniteCheck;
 use crate::kind_rules::KindRules;
-use crate::later::LaterRules;
 use crate::lots::LotsCheck;
 use crate::news::NewsCheck;
+use crate::serial::SerialCheck;
 use decision_model::Instance;
 use value_cert::CertLine;
 
@@ -17,7 +18,8 @@ pub(crate) enum KindCheck<'a> {
     News(NewsCheck<'a>),
     Lots(LotsCheck<'a>),
     Finite(FiniteCheck<'a>),
-    Later(LaterRules),
+    Average(AverageCheck<'a>),
+    Serial(SerialCheck<'a>),
 }
 
 // An answer by the rules of whichever kind.
@@ -27,7 +29,8 @@ macro_rules! of_kind {
             KindCheck::News($rules) => $answer,
             KindCheck::Lots($rules) => $answer,
             KindCheck::Finite($rules) => $answer,
-            KindCheck::Later($rules) => $answer,
+            KindCheck::Average($rules) => $answer,
+            KindCheck::Serial($rules) => $answer,
         }
     };
 }
@@ -50,7 +53,10 @@ impl<'a> KindCheck<'a> {
             Instance::News(newsvendor) => KindCheck::News(NewsCheck::new(newsvendor)),
             Instance::Lots(lots) => KindCheck::Lots(LotsCheck::new(lots, cells)),
             Instance::Finite(finite) => KindCheck::Finite(FiniteCheck::new(finite, cells, sums)),
-            _ => KindCheck::Later(LaterRules),
+            Instance::Average(average) => {
+                KindCheck::Average(AverageCheck::new(average, cells, sums))
+            }
+            Instance::Serial(serial) => KindCheck::Serial(SerialCheck::new(serial, cells)),
         }
     }
 }

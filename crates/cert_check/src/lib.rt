@@ -2,17 +2,18 @@
 //! cost. It reads a certificate once, line by line, and works in tables that its caller hands in.
 #![tactic(auto)]
 
+mod average;
 mod check;
 mod finite;
 #[cfg(test)]
 mod finite_tests;
 mod kind_check;
 mod kind_rules;
-mod later;
 #[cfg(test)]
 mod lot_tests;
 mod lots;
 mod news;
+mod serial;
 mod tables;
 #[cfg(test)]
 mod tests;

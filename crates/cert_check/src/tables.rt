@@ -7,7 +7,6 @@ ghost use Rattle.decision_model.specs.Valid.{IsValid};
 ghost use Rattle.cert_check.specs.Tables.{lots_room, finite_room, average_room, serial_room, room_of, cell_count, sum_count};
 
 use decision_model::{Average, Finite, Instance, LotSize, Serial};
-use finite_recursion::lead_sums;
 
 // How many cells and how many sums of weights a check works in.
 #[derive(Clone, Copy)]
@@ -41,18 +40,17 @@ fn average_room(average: &Average) -> Room
     ensures { result ≡ average_room average.now }
 {
     Room {
-        cells: 2 * average.positions() as usize,
-        sums: lead_sums(average.lead, average.law.greatest()),
+        cells: average_recursion::cells_of(average),
+        sums: average_recursion::sums_of(average),
     }
 }
 
-// A row over the grid for each stage, and two more.
 fn serial_room(serial: &Serial) -> Room
     requires { IsValidSerial serial.now }
     ensures { result ≡ serial_room serial.now }
 {
     Room {
-        cells: (serial.holding.as_slice().len() + 2) * serial.positions() as usize,
+        cells: serial_recursion::cells_of(serial),
         sums: 0,
     }
 }

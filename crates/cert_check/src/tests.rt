@@ -285,18 +285,18 @@ fn verdict_on_endless(rt: &impl Abort, alloc: Global, text: &str) -> Result<Verd
     Ok(verdict(alloc, &instance, text.as_bytes())?)
 }
 
-// No certificate is for a kind whose solver isn't built.
+// A certificate that breaks off, one of another kind, and a line that begins none.
 #[test]
-fn later_kinds(rt: HostRuntime) -> Result<(), Fail> {
+fn first_lines_of_an_average_cost(rt: HostRuntime) -> Result<(), Fail> {
     let rows = [
-        ("certificate 1 average\n", 2),
-        ("certificate 1 newsvendor\n", 2),
-        ("x\n", 1),
+        ("certificate 1 average\n", 2, 1),
+        ("certificate 1 newsvendor\n", 1, 2),
+        ("x\n", 1, 1),
     ];
-    for (text, rule) in rows {
+    for (text, line, rule) in rows {
         assert_eq!(rt;
             verdict_on_endless(&rt, rt.alloc(), text)?,
-            rejected(1, rule),
+            rejected(line, rule),
             "{text}"
         );
     }

@@ -4,5 +4,6 @@ pub mod Demand
 pub mod News
 pub mod Lots
 pub mod Finite
+pub mod Average
 pub mod Serial
 pub mod Reports

@@ -1,29 +1,38 @@
 -- What `solve` prints, and the text of `help`.
 use Rattle.std.specs.Prelude.{ℕ, List, [], ◌++◌, codes}
 use Rattle.decision_model.specs.declared.instance.Instance.{Instance}
+use Rattle.decision_model.specs.declared.instance.Instance.TheVariants as instance
 use Rattle.value_cert.specs.PrintedCost.{printed_cost_text}
 use Rattle.value_cert.specs.declared.cert.Cert.{Cert}
 use Rattle.value_cert.specs.declared.cert.Cert.TheVariants as cert
+use Rattle.report_text.specs.Average.{pair_lines, span_line}
 use Rattle.report_text.specs.Finite.{shapes_lines}
 use Rattle.report_text.specs.Lots.{plan_lines}
 use Rattle.report_text.specs.News.{level_lines}
 use Rattle.report_text.specs.Serial.{levels_lines}
 
--- the lines of a cost, and of what it is
-abbrev pub cost_lines : List ℕ → List ℕ
-cost_lines cost = codes "cost " ++ cost ++ codes "\noptimal\n"
+-- the line of a cost
+abbrev pub cost_line : List ℕ → List ℕ
+cost_line cost = codes "cost " ++ cost ++ codes "\n"
 
 -- the policy of a certificate
-abbrev pub policy_lines : Cert → List ℕ
-policy_lines (cert.News c) = level_lines c.q
-policy_lines (cert.Lots c) = plan_lines c.orders
-policy_lines (cert.Finite c) = shapes_lines c.rows
-policy_lines (cert.Serial c) = levels_lines c.periods
-policy_lines _ = []
+abbrev pub policy_lines : Instance → Cert → List ℕ
+policy_lines _ (cert.News c) = level_lines c.q
+policy_lines _ (cert.Lots c) = plan_lines c.orders
+policy_lines _ (cert.Finite c) = shapes_lines c.rows
+policy_lines (instance.Average average) (cert.Average c) = pair_lines average c
+policy_lines _ (cert.Average c) = []
+policy_lines _ (cert.Serial c) = levels_lines c.periods
+
+-- what bounds the cost of some periods, where the cost is an average
+abbrev pub span_lines : Instance → Cert → List ℕ
+span_lines (instance.Average average) (cert.Average c) = span_line average c
+span_lines _ _ = []
 
 -- the report of an instance and a certificate for it
 abbrev pub report_of : Instance → Cert → List ℕ
-report_of instance c = policy_lines c ++ cost_lines (printed_cost_text instance c)
+report_of instance c =
+    policy_lines instance c ++ cost_line (printed_cost_text instance c) ++ span_lines instance c ++ codes "optimal\n"
 
 -- the text of `help`
 abbrev pub help_words : List ℕ

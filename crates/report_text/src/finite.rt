@@ -1,7 +1,6 @@
 // The lines of finite horizons.
 ghost use Rattle.std.specs.Prelude.{◌≡◌, ◌+◌, ◌++◌, OnOk, codes};
 ghost use Rattle.std.specs.List.{flat_map, range_with_len};
-ghost use Rattle.std.specs.Fmt.{signed_decimal};
 ghost use Rattle.decision_model.specs.Finite.{IsValidFinite};
 ghost use Rattle.decision_model.specs.declared.finite.Finite.{Finite};
 ghost use Rattle.value_cert.specs.FiniteRules.{cells_of, HasEachRow};
@@ -10,7 +9,7 @@ ghost use Rattle.report_text.specs.Demand.{demand_text_of};
 ghost use Rattle.report_text.specs.Finite.{move_line, move_lines, shape_text, period_lines, row_lines, rows_lines, shapes_lines};
 
 use crate::periods::push_periods;
-use crate::pieces::push_number;
+use crate::pieces::{push_number, push_positions};
 use decision_model::{Finite, Instance};
 use finite_ss::{Shape, shape_of_cells};
 use fraction128::{Memory, Text};
@@ -19,23 +18,6 @@ use value_cert::{FiniteCell, FiniteCert, FiniteRow};
 
 #[cfg(test)]
 mod tests;
-
-// Appends two positions, each behind its word, and ends the line.
-fn push_positions(
-    out: &mut Text,
-    first_word: &str,
-    first: i64,
-    second_word: &str,
-    second: i64,
-) -> Result<(), Memory>
-    ensures { OnOk result (out.new ≡ out.old ++ (first_word.now ++ signed_decimal first ++ second_word.now ++ signed_decimal second ++ codes "\n")) }
-{
-    out.push(first_word.as_bytes())?;
-    push_number(out, first)?;
-    out.push(second_word.as_bytes())?;
-    push_number(out, second)?;
-    out.push(b"\n")
-}
 
 // Appends the line of a position, if it orders.
 fn push_move(out: &mut Text, cell: &FiniteCell) -> Result<(), Memory>

@@ -1,5 +1,6 @@
 // Texts of several pieces.
-ghost use Rattle.std.specs.Prelude.{◌≡◌, ◌++◌, OnOk, decimal};
+ghost use Rattle.std.specs.Prelude.{◌≡◌, ◌++◌, OnOk, codes, decimal};
+ghost use Rattle.std.specs.Fmt.{signed_decimal};
 
 use fraction128::{Memory, Text};
 use itoa::{Buffer, Integer};
@@ -27,4 +28,21 @@ pub fn push_both(out: &mut Text, word: &str, behind: &[u8]) -> Result<(), Memory
 {
     out.push(word.as_bytes())?;
     out.push(behind)
+}
+
+// Appends two positions, each behind its word, and ends the line.
+pub fn push_positions(
+    out: &mut Text,
+    first_word: &str,
+    first: i64,
+    second_word: &str,
+    second: i64,
+) -> Result<(), Memory>
+    ensures { OnOk result (out.new ≡ out.old ++ (first_word.now ++ signed_decimal first ++ second_word.now ++ signed_decimal second ++ codes "\n")) }
+{
+    out.push(first_word.as_bytes())?;
+    push_number(out, first)?;
+    out.push(second_word.as_bytes())?;
+    push_number(out, second)?;
+    out.push(b"\n")
 }

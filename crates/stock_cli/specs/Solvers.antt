@@ -15,3 +15,5 @@ abbrev pub instance_of : Solver → Instance
 instance_of (solver.News newsvendor) = instance.News newsvendor.now
 instance_of (solver.Lots lots) = instance.Lots lots.now
 instance_of (solver.Finite finite) = instance.Finite finite.now
+instance_of (solver.Average average) = instance.Average average.now
+instance_of (solver.Serial serial) = instance.Serial serial.now

@@ -5,12 +5,14 @@ ghost use Rattle.value_cert.specs.Meaning.{Certifies, solved_cert};
 ghost use Rattle.value_cert.specs.Texts.{HasText};
 ghost use Rattle.stock_cli.specs.Solvers.{IsBuilt, instance_of};
 
-use decision_model::{Finite, Instance, LotSize};
+use average_cost::solve_average;
+use decision_model::{Average, Finite, Instance, LotSize, Serial};
 use finite_ss::solve_finite;
 use fraction128::Memory;
 use instance_json::InstanceFault;
 use newsvendor::{Newsvendor, solve_newsvendor};
 use report_text::Fault;
+use serial_echelon::solve_serial;
 use std::alloc::Global;
 use value_cert::Cert;
 use wagner_whitin::solve_lots;
@@ -21,6 +23,8 @@ pub enum Solver<'a> {
     News(&'a Newsvendor),
     Lots(&'a LotSize),
     Finite(&'a Finite),
+    Average(&'a Average),
+    Serial(&'a Serial),
 }
 
 /// What solves an instance. Here alone a kind whose solver isn't built is told apart.
@@ -33,9 +37,8 @@ pub fn solver_of(instance: &Instance) -> Result<Solver<'_>, Fault>
         Instance::News(newsvendor) => Ok(Solver::News(newsvendor)),
         Instance::Lots(lots) => Ok(Solver::Lots(lots)),
         Instance::Finite(finite) => Ok(Solver::Finite(finite)),
-        Instance::Average(_) | Instance::Serial(_) => {
-            Err(Fault::Instance(InstanceFault::NotBuilt))
-        }
+        Instance::Average(average) => Ok(Solver::Average(average)),
+        Instance::Serial(serial) => Ok(Solver::Serial(serial)),
     }
 }
 
@@ -51,6 +54,8 @@ impl Solver<'_> {
             Solver::News(newsvendor) => Ok(Cert::News(solve_newsvendor(newsvendor))),
             Solver::Lots(lots) => Ok(Cert::Lots(solve_lots(alloc, lots)?)),
             Solver::Finite(finite) => Ok(Cert::Finite(solve_finite(alloc, finite)?)),
+            Solver::Average(average) => Ok(Cert::Average(solve_average(alloc, average)?)),
+            Solver::Serial(serial) => Ok(Cert::Serial(solve_serial(alloc, serial)?)),
         }
     }
 }

@@ -1,2 +1,4 @@
 pub mod Writing
 pub mod Orders
+mod StartValues
+pub mod DigitFacts

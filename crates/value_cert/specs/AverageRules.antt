@@ -19,7 +19,7 @@ use Rattle.value_cert.specs.declared.line.CertLine.{CertLine}
 use Rattle.value_cert.specs.declared.line.CertLine.TheVariants.{Head, Gain, Pair, Point, End}
 
 -- ---- what the lines so far name
--- the average cost, the pair, and the entries of the first places
+-- the average cost, the pair, and the entries of the first places, which begin anew behind an average cost
 pub record FirstPoints : Type 0 where
   pub g : Ratio
   pub low : ℤ
@@ -32,7 +32,7 @@ no_points = record { g = record { num = 0; den = 0 }; low = pos 0; high = pos 0;
 
 abbrev pub named_points : FirstPoints → CertLine → FirstPoints
 named_points first (Gain num den) =
-    record { g = record { num = unsigned_abs num; den = unsigned_abs den }; low = first.low; high = first.high; lower = first.lower; upper = first.upper }
+    record { g = record { num = unsigned_abs num; den = unsigned_abs den }; low = first.low; high = first.high; lower = []; upper = [] }
 named_points first (Pair low high) = record { g = first.g; low = low; high = high; lower = first.lower; upper = first.upper }
 named_points first (Point at lower upper) =
     record { g = first.g; low = first.low; high = first.high; lower = first.lower ++ unsigned_abs lower ∷ []; upper = first.upper ++ unsigned_abs upper ∷ [] }

@@ -13,6 +13,7 @@ pub mod Texts
 pub mod Writes
 pub mod Parsing
 pub mod LineWords
+pub mod Digits
 pub mod Reading
 pub mod ReaderFields
 pub mod GrammarFacts

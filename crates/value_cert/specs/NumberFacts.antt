@@ -112,7 +112,7 @@ decimal_value (c ∷ e ∷ cs) d some lead small =
     ∙ ap (λ x. x ++ (e ∷ cs)) (decimal_digit (0 * 10 + digit_value c) (omega (arith, d.0)) ∙ ap (λ x. x ∷ []) is)
 
 -- a word with no sign before it is its digits
-unsigned_word : (word : List ℕ) → starts_with_minus word ≡ false → eqb (slice_index word 0) 43 ≡ false → (without_leading_sign word ≡ word) × (signed_digits_value 10 word ≡ pos (digits_value 10 word))
+pub unsigned_word : (word : List ℕ) → starts_with_minus word ≡ false → eqb (slice_index word 0) 43 ≡ false → (without_leading_sign word ≡ word) × (signed_digits_value 10 word ≡ pos (digits_value 10 word))
 unsigned_word word no_minus no_plus = (rw (no_minus, no_plus) refl, rw (no_minus, no_plus) refl)
 
 -- digits have no sign
@@ -193,7 +193,7 @@ minus_text : (v : ℕ) (ds : List ℕ) → 48 < get_or ds 0 0 → decimal v ≡ 
 minus_text zero ds lead same = absurd (omega (arith, lead, ap (λ (t : List ℕ). get_or t 0 0) (sym same ∙ decimal_digit 0 (omega arith))))
 minus_text (suc m) ds lead same = ap (λ (t : List ℕ). 45 ∷ t) same
 
-abs_minus : (v : ℕ) → unsigned_abs (neg_ℤ (pos v)) ≡ v
+pub abs_minus : (v : ℕ) → unsigned_abs (neg_ℤ (pos v)) ≡ v
 abs_minus zero = refl
 abs_minus (suc m) = refl
 

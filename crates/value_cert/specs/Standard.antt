@@ -1,8 +1,7 @@
 -- What certificates are held against.
-use Rattle.std.specs.Prelude.{ℕ, ℤ, pos, Option, Some, None}
+use Rattle.std.specs.Prelude.{ℕ, ℤ, Option}
 use Rattle.value_cert.specs.Rules.{Rules}
 use Rattle.value_cert.specs.declared.cert.Cert.{Cert}
-use Rattle.value_cert.specs.declared.line.CertLine.{CertLine}
 
 -- the rules on the lines; which certificates name a policy than which none costs less, and its cost; the one that the
 -- solver writes, if it is built; and the cost that is printed of one, in lowest terms
@@ -12,17 +11,3 @@ pub record Standard : Type 1 where
   pub solved : Option Cert
   pub printed_num : Cert → ℤ
   pub printed_den : Cert → ℕ
-
--- each line breaks rule 2
-abbrev pub unbuilt_rule : Unit {0} → CertLine → Option ℕ
-unbuilt_rule known line = Some 2
-
-abbrev pub nothing_known : Unit {0} → CertLine → Unit {0}
-nothing_known known line = known
-
-abbrev pub unbuilt_rules : Rules
-unbuilt_rules = record { Known = Unit {0}; nothing = tt; further = nothing_known; broken = unbuilt_rule }
-
--- the standard of a kind whose solver isn't built
-abbrev pub unbuilt : Standard
-unbuilt = record { rules = unbuilt_rules; Certifies = λ c. ⊥; solved = None; printed_num = λ c. pos 0; printed_den = λ c. 1 }

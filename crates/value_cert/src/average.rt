@@ -1,6 +1,7 @@
 // Certificates of average costs.
-ghost use Rattle.std.specs.Prelude.{◌≡◌, [], ◌∷◌, pos, IsTrue};
+ghost use Rattle.std.specs.Prelude.{◌≡◌, ◌≤◌, [], ◌∷◌, pos, IsTrue};
 ghost use Rattle.std.specs.List.{list_all};
+ghost use Rattle.fraction128.specs.Reduced.{lowest_num, lowest_den};
 ghost use Rattle.value_cert.specs.Average.{average_follows, average_table, point_line};
 ghost use Rattle.value_cert.specs.Grammar.{has_numbers};
 ghost use Rattle.value_cert.specs.Texts.{cert_lines};
@@ -12,6 +13,7 @@ use crate::numbers::is_no_discount;
 use crate::part::{Part, write_each, write_to_end};
 use crate::piece::{Piece, write_line};
 use decision_model::{Items, Kind};
+use fraction128::Frac;
 use stock_edge::{Failed, Sink};
 
 /// A position, and its relative values from below and from above.
@@ -100,4 +102,14 @@ pub(crate) fn write<K: Sink>(
     ];
     write_each(&front, piece, sink)?;
     write_to_end(cert.cells.as_slice(), piece, sink)
+}
+
+/// The average cost of a certificate.
+pub(crate) fn average_cost(cert: &AverageCert) -> Frac
+    requires some { 1 ≤ cert.now.den }
+    requires numbers { IsTrue (list_all has_numbers (cert_lines (Cert.Average cert.now))) }
+    ensures num { result.num ≡ lowest_num (pos cert.now.num) cert.now.den }
+    ensures den { result.den ≡ lowest_den (pos cert.now.num) cert.now.den }
+{
+    Frac::new(cert.num as i128, cert.den)
 }

@@ -7,8 +7,8 @@ ghost use Rattle.value_cert.specs.PrintedCost.{printed_num, printed_den};
 ghost use Rattle.value_cert.specs.Texts.{HasText};
 
 use crate::cert::Cert;
-use crate::finite;
 use crate::lots::LotCert;
+use crate::{average, finite, serial};
 use decision_model::Instance;
 use fraction128::Frac;
 use newsvendor::{NewsCert, Newsvendor};
@@ -33,7 +33,9 @@ fn plan_cost(cert: &LotCert) -> Frac
 
 /// The cost that a solve prints of an instance and its certificate, in lowest terms: of a newsvendor the certificate's
 /// cost over the sum of the law's weights, of a lot plan its cost, of a finite horizon the value of the start in the first
-/// period over the sum of weights and the discount's denominator, once for each period.
+/// period over the sum of weights and the discount's denominator, once for each period (and the sum of weights once more a
+/// period of the lead time), of an average cost itself, of a serial system the echelons' values of the start in the first
+/// period, added up, over the sum of weights and the discount's denominator, once for each period.
 pub fn cost_of(instance: &Instance, cert: &Cert) -> Frac
     requires valid { IsValid instance.now }
     requires certified { Certifies instance.now cert.now }
@@ -45,6 +47,8 @@ pub fn cost_of(instance: &Instance, cert: &Cert) -> Frac
         (Instance::News(newsvendor), Cert::News(cert)) => level_cost(newsvendor, cert),
         (Instance::Lots(_), Cert::Lots(cert)) => plan_cost(cert),
         (Instance::Finite(finite), Cert::Finite(cert)) => finite::policy_cost(finite, cert),
+        (Instance::Average(_), Cert::Average(cert)) => average::average_cost(cert),
+        (Instance::Serial(serial), Cert::Serial(cert)) => serial::policy_cost(serial, cert),
         _ => Frac::whole(0),
     }
 }

@@ -4,6 +4,7 @@
 mod average;
 mod cert;
 mod cost;
+mod digits;
 mod finite;
 mod kinds;
 mod laws;

@@ -1,6 +1,7 @@
 // A reader of certificates, whose bytes come in any pieces.
-ghost use Rattle.std.specs.Prelude.{◌≡◌, ◌+◌, ◌≤◌, ◌++◌, List, ℕ, [], length, take, true, false, Ok, Err, Some, None, IfOk, OnErr, IfErr, MatchResult, MatchOption, IsSomeAnd, option_to_list};
+ghost use Rattle.std.specs.Prelude.{◌≡◌, ◌+◌, ◌<◌, ◌≤◌, ◌++◌, List, ℕ, [], length, take, true, false, Ok, Err, Some, None, IfOk, OnErr, IfErr, MatchResult, MatchOption, IsSomeAnd, option_to_list};
 ghost use Rattle.value_cert.specs.LineWords.{IsWithout};
+ghost use Rattle.value_cert.specs.Parsing.{line_of};
 ghost use Rattle.value_cert.specs.Reading.{IsUnfinished, Fails, Keeps, NoLineIs, IsEnded, Finishes, Reads, TakesSome, Refuses, HasRead, BeginsNoText, AreLinesOf};
 ghost use Rattle.value_cert.specs.declared.line.CertLine.{CertLine};
 
@@ -115,6 +116,19 @@ impl CertReader {
         })
     }
 
+    // The line that the unfinished one and these bytes spell.
+    fn line_with(&self, end: &[u8]) -> Option<CertLine>
+        requires { length self.now.unfinished + length end.now < 128 }
+        ensures { result ≡ line_of (self.now.unfinished ++ end.now) }
+    {
+        if self.len == 0 {
+            return parse_line(end);
+        }
+        let mut whole = self.line;
+        fill(&mut whole, self.len, end);
+        parse_line(&whole[..self.len + end.len()])
+    }
+
     // The line that ends with these bytes, if it may stand where it does.
     fn ended_line(&self, end: &[u8]) -> Option<EndedLine>
         requires { IsWithout 10 end.now }
@@ -125,9 +139,7 @@ impl CertReader {
         if end.len() >= TOO_LONG - self.len {
             return None;
         }
-        let mut whole = self.line;
-        fill(&mut whole, self.len, end);
-        let line = parse_line(&whole[..self.len + end.len()])?;
+        let line = self.line_with(end)?;
         let place = self.place.after(&line)?;
         Some(EndedLine { line, place })
     }

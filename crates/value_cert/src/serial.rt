@@ -1,17 +1,23 @@
 // Certificates of serial systems.
-ghost use Rattle.std.specs.Prelude.{◌≡◌, [], ◌∷◌, pos, IsTrue};
+ghost use Rattle.std.specs.Prelude.{◌≡◌, ◌-◌, ◌^◌, ◌+ℤ◌, ◌<◌, ◌≤◌, [], ◌∷◌, length, slice_index_or, pos, unsigned_abs, ℕ, ℤ, IsTrue};
 ghost use Rattle.std.specs.List.{list_all};
+ghost use Rattle.fraction128.specs.Reduced.{lowest_num, lowest_den};
+ghost use Rattle.decision_model.specs.Serial.{IsValidSerial};
+ghost use Rattle.decision_model.specs.SerialProblem.{over_echelons};
 ghost use Rattle.value_cert.specs.Grammar.{has_numbers};
+ghost use Rattle.value_cert.specs.SerialRules.{rows_of, row_cells, cell_value, start_value};
+ghost use Rattle.value_cert.specs.SerialValues.{scale};
 ghost use Rattle.value_cert.specs.Serial.{serial_follows, serial_table, part_line, echelon_lines, period_lines};
 ghost use Rattle.value_cert.specs.Texts.{cert_lines};
 ghost use Rattle.value_cert.specs.Writes.{output, Writes};
 ghost use Rattle.value_cert.specs.declared.cert.Cert.{Cert};
 
 use crate::line::{CertLine, Tag, head_line, period_line};
-use crate::numbers::is_discount_fraction;
+use crate::numbers::{is_discount_fraction, power};
 use crate::part::{Part, write_each, write_to_end};
 use crate::piece::{Piece, write_line};
-use decision_model::{Items, Kind};
+use decision_model::{Items, Kind, Serial};
+use fraction128::Frac;
 use stock_edge::{Failed, Sink};
 
 /// An echelon stock, and the echelon's part of the cost from there on.
@@ -129,4 +135,97 @@ pub(crate) fn write<K: Sink>(
     let head = head_line(Kind::Serial, cert.discount_num, cert.discount_den);
     write_line(&head, piece, sink)?;
     write_to_end(cert.periods.as_slice(), piece, sink)
+}
+
+/// What the values of a serial system are over, where so many periods are left: the discount's denominator and the common
+/// sum of weights, once a period.
+#[tactic(auto, using(decision_model::specs::WidthFacts::serial_scale_fits), unfolding(crate::specs::SerialValues::scale))]
+pub fn serial_scale_of(serial: &Serial, left: u32) -> u128
+    requires valid { IsValidSerial serial.now }
+    requires left { left ≤ serial.now.periods }
+    ensures scale { result ≡ scale serial.now left }
+    ensures some { 1 ≤ result }
+    ensures small { result ≤ 2 ^ 120 }
+{
+    power(u128::from(serial.discount_den) * serial.laws.total(), left)
+}
+
+// The echelons of the first period; none where it has none.
+fn first_rows(periods: &[SerialPeriod]) -> &[SerialRow]
+    ensures { result.now ≡ rows_of periods.now 1 }
+{
+    for period in periods {
+        if period.period == 1 {
+            return period.rows.as_slice();
+        }
+    }
+    &[]
+}
+
+// The cells of an echelon, which counts from 1; none where it has no row.
+fn cells_of(rows: &[SerialRow], echelon: u32) -> &[SerialCell]
+    requires { 1 ≤ echelon }
+    ensures { result.now ≡ row_cells rows.now (echelon - 1) }
+{
+    for row in rows {
+        if row.echelon == echelon {
+            return row.cells.as_slice();
+        }
+    }
+    &[]
+}
+
+// The value of an echelon stock; 0 where it has no cell.
+fn value_at(cells: &[SerialCell], position: i64) -> i128
+    ensures { result ≡ cell_value cells.now position }
+{
+    for cell in cells {
+        if cell.at == position {
+            return cell.value;
+        }
+    }
+    0
+}
+
+// The value of the stock of an echelon, which counts from 0 here.
+fn value_of_echelon(rows: &[SerialRow], stocks: &[i64], place: usize) -> i128
+    requires few { length stocks.now ≤ 8 }
+    requires inside { place < length stocks.now }
+    ensures { result ≡ cell_value (row_cells rows.now place) (slice_index_or stocks.now place (pos 0)) }
+{
+    value_at(cells_of(rows, place as u32 + 1), stocks[place])
+}
+
+// One more value.
+fn with_value(total: i128, value: i128) -> i128
+    requires total { unsigned_abs total ≤ 2 ^ 124 }
+    requires value { unsigned_abs value ≤ 2 ^ 120 }
+    ensures { result ≡ total +ℤ value }
+{
+    total + value
+}
+
+// The echelons' values of their stocks, added up.
+fn value_of_stocks(rows: &[SerialRow], stocks: &[i64]) -> i128
+    requires few { length stocks.now ≤ 8 }
+    requires small { (i : ℕ) (x : ℤ) → unsigned_abs (cell_value (row_cells rows.now i) x) ≤ 2 ^ 120 }
+    ensures { result ≡ over_echelons (λ i x. cell_value (row_cells rows.now i) x) 0 stocks.now }
+{
+    let mut total = 0;
+    for place in 0..stocks.len() {
+        total = with_value(total, value_of_echelon(rows, stocks, place));
+    }
+    total
+}
+
+/// The cost of a certificate's policy: the echelons' values of the start over the scale of all periods.
+pub(crate) fn policy_cost(serial: &Serial, cert: &SerialCert) -> Frac
+    requires valid { IsValidSerial serial.now }
+    requires numbers { IsTrue (list_all has_numbers (cert_lines (Cert.Serial cert.now))) }
+    ensures num { result.num ≡ lowest_num (start_value serial.now cert.now) (scale serial.now serial.now.periods) }
+    ensures den { result.den ≡ lowest_den (start_value serial.now cert.now) (scale serial.now serial.now.periods) }
+{
+    let rows = first_rows(cert.periods.as_slice());
+    let value = value_of_stocks(rows, serial.start.as_slice());
+    Frac::new(value, serial_scale_of(serial, serial.periods))
 }

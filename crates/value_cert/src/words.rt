@@ -1,16 +1,20 @@
 // The line that bytes spell.
-ghost use Rattle.std.specs.Prelude.{◌≡◌, ◌++◌, [], ◌∷◌, MatchOption, find};
+ghost use Rattle.std.specs.Prelude.{◌≡◌, ◌≤◌, ◌++◌, [], ◌∷◌, length, MatchOption, IsTrue, find};
 ghost use Rattle.std.specs.List.{slice_split};
 ghost use Rattle.std.specs.Str.{bytes_eq};
 ghost use Rattle.decision_model.specs.Kind.{kind_word};
 ghost use Rattle.value_cert.specs.Parsing.{word_number, word_kind, plain_head, discount_head, two_numbers, words_line, line_of};
 ghost use Rattle.value_cert.specs.LineWords.{IsWithout, is_blank, is_plain};
 
+use crate::digits::{minus, number_of, plus};
 use crate::kinds::has_certificates;
 use crate::line::CertLine;
 use crate::numbers::{is_unit_fraction, is_whole_number};
 use decision_model::Kind;
 use std::str;
+
+// The number of a word of so many bytes is read in 64 bits.
+const SHORT: usize = 36;
 
 // What stands before the first such byte, and what stands behind it; `None` where there is none.
 pub(crate) fn split_at_byte(bytes: &[u8], byte: u8) -> Option<(&[u8], &[u8])>
@@ -48,13 +52,12 @@ fn is_plain_number(word: &[u8]) -> bool
     }
 }
 
-/// The number that a word spells: a whole number of at most 2^120 in size, in decimal with no zero or plus before it.
-pub fn parse_number(word: &[u8]) -> Option<i128>
+// The number that a word of any length spells.
+#[inline(never)]
+fn long_number(word: &[u8]) -> Option<i128>
+    requires { IsTrue (is_plain word.now) }
     ensures { result ≡ word_number word.now }
 {
-    if !is_plain_number(word) {
-        return None;
-    }
     let Ok(text) = str::from_utf8(word) else {
         return None;
     };
@@ -65,6 +68,35 @@ pub fn parse_number(word: &[u8]) -> Option<i128>
         Some(number)
     } else {
         None
+    }
+}
+
+// The number that a word of at most 36 bytes spells.
+#[inline]
+fn short_number(word: &[u8]) -> Option<i128>
+    requires plain { IsTrue (is_plain word.now) }
+    requires short { length word.now ≤ 36 }
+    ensures { result ≡ word_number word.now }
+{
+    if word[0] == b'-' {
+        let size = number_of(&word[1..])?;
+        return Some(minus(size));
+    }
+    let size = number_of(word)?;
+    Some(plus(size))
+}
+
+/// The number that a word spells: a whole number of at most 2^120 in size, in decimal with no zero or plus before it.
+pub fn parse_number(word: &[u8]) -> Option<i128>
+    ensures { result ≡ word_number word.now }
+{
+    if !is_plain_number(word) {
+        return None;
+    }
+    if word.len() <= SHORT {
+        short_number(word)
+    } else {
+        long_number(word)
     }
 }
 

@@ -59,3 +59,8 @@ returns-clause-ok g c =
     let Told : Result Output Fault → Type 0 = λ end. end ≡ Ok (output_of given) in
     let P : Content → Type 0 = λ found. IfSome (check_ending found instance (solved_cert instance)) Told in
     tells_said answer content instance Told c.in_ok-instance.ensures.said (subst P same h)) c.check.ensures.ok
+
+pub returns-clause-spared_input : goal.returns-clause-spared_input
+returns-clause-spared_input g c = λ spares.
+    c.check.ensures.spared_input (λ standard built. spares (inr (sym standard, stands_said _ _ c.in_ok-instance.ensures.said built)))
+    ∙ c.in_ok-instance.ensures.same_input (λ first. spares (inl (sym first)))
