@@ -95,6 +95,31 @@ def horizon_each(periods):
     return horizon(periods, demand=[law] * (periods + 2))
 
 
+def average(positions):
+    """The longest grids: the demands above 0 have a weight of 1 in all."""
+    return {"kind": "average", "lead": 2, "setup": 500, "holding": 1, "stockout": 9,
+            "demand": {"points": [[0, 1], [1, 1]]}, "floor": -50, "cap": positions - 51}
+
+
+def stages(count, positions=200, demands=5):
+    """A chain of stages over twelve periods; each demand below a number has weight 1."""
+    return {"kind": "serial", "periods": 12, "holding": [1] * count, "unit": 1, "stockout": 20,
+            "demand": {"uniform": [0, demands - 1]}, "cap": positions - 1 - 12 * (demands - 1),
+            "start": [4 * stage for stage in range(1, count + 1)]}
+
+
+def four_stages(positions):
+    return stages(4, positions)
+
+
+def eight_stages(positions):
+    return stages(8, positions)
+
+
+def stage_demands(demands):
+    return stages(4, 400, demands)
+
+
 # The rows: name, command, instance of a size, and the three sizes.
 ROWS = [
     ("`solve`, newsvendor of 2,500, 5,000, 10,000 points", "solve", newsvendor, (2500, 5000, 10000)),
@@ -116,6 +141,16 @@ ROWS = [
     ("`solve`, finite of 10, 20, 40 periods, one law, lead time 2", "solve", horizon, (10, 20, 40)),
     ("`solve`, finite of 10, 20, 40 periods, a law each", "solve", horizon_each, (10, 20, 40)),
     ("`check`, finite of 10, 20, 40 periods, one law, lead time 2", "check", horizon, (10, 20, 40)),
+    ("`solve`, average of 500, 1,000, 2,000 positions", "solve", average, (500, 1000, 2000)),
+    ("`certify`, average of 500, 1,000, 2,000 positions", "certify", average, (500, 1000, 2000)),
+    ("`check`, average of 500, 1,000, 2,000 positions", "check", average, (500, 1000, 2000)),
+    ("`solve`, serial of 1, 2, 4 echelons on 200 positions", "solve", stages, (1, 2, 4)),
+    ("`solve`, serial of 8 echelons on 100, 200, 400 positions", "solve", eight_stages, (100, 200, 400)),
+    ("`solve`, serial of 4 echelons on 100, 200, 400 positions", "solve", four_stages, (100, 200, 400)),
+    ("`certify`, serial of 4 echelons on 100, 200, 400 positions", "certify", four_stages, (100, 200, 400)),
+    ("`check`, serial of 4 echelons on 100, 200, 400 positions", "check", four_stages, (100, 200, 400)),
+    ("`check`, serial of 2, 4, 8 echelons on 200 positions", "check", stages, (2, 4, 8)),
+    ("`solve`, serial of 5, 10, 20 demands on 400 positions", "solve", stage_demands, (5, 10, 20)),
     ("reading 28, 56, 112 laws of 10,001 demands", "solve", wide_laws, (28, 56, 112)),
     ("`demand`, lead time 8, greatest demand 100, 200, 400", "demand", long_lead, (100, 200, 400)),
     ("`demand`, one law for 12 months, lead time 0, 2, 4", "demand", months, (0, 2, 4)),

@@ -1,5 +1,6 @@
 #!/usr/bin/env python3
-"""Prints the answer of an instance, its cost as a decimal too, and what the checker says of its certificate.
+"""Prints the answer of an instance, its cost (and span, where it has one) as a decimal too, and what the checker says of
+its certificate.
 
     python3 examples/python/answer.py examples/newsvendor.json
 """
@@ -22,6 +23,8 @@ def main():
     for line in answer.policy:
         print("policy:", ", ".join("%s %s" % pair for pair in line.items()))
     print("cost: %s = %.4f" % (answer.cost, answer.cost))
+    if answer.span is not None:
+        print("span: %s = %.4f" % (answer.span, answer.span))
     print("certificate:", "accepted" if verdict.accepted else "rejected")
     return 0
 

@@ -1,6 +1,7 @@
 #!/usr/bin/env python3
 """Draws the expected cost of each order-up-to level of a newsvendor, the order and the stock of each period of a lot
-plan, or the highest position of each period of a finite horizon that orders and where it orders up to: with matplotlib
+plan, the highest position of each period of a finite horizon that orders and where it orders up to, the expected cost of
+a period at each position of an average cost, or the level of each echelon of a serial system by periods: with matplotlib
 where it is there, else as bars of text, which `--text` asks for.
 
     python3 examples/python/draw.py [--text] examples/newsvendor-bakery.json
@@ -13,13 +14,12 @@ import stockreader
 WIDTH = 40
 
 
-def level_costs(instance):
-    """The expected cost of each level from 0 to the greatest demand."""
-    (law,) = stockreader.demand(instance)
+def stock_costs(instance, law, levels):
+    """The expected cost of what is left and of what lacks, at each level, where the demand of the law comes."""
     holding, stockout = instance["holding"], instance["stockout"]
     return [sum(chance * (holding * max(level - size, 0) + stockout * max(size - level, 0))
                 for size, chance in law.probabilities.items())
-            for level in range(max(law.probabilities) + 1)]
+            for level in levels]
 
 
 def stocks(orders, demand):
@@ -45,9 +45,21 @@ def series_of(instance):
     answer = stockreader.solve(instance)
     cost = "cost %s" % answer.cost
     if answer.kind == "newsvendor":
+        (law,) = stockreader.demand(instance)
         level = answer.policy[0]["order-up-to"]
         title = "Expected cost of each level; least at %d, %s" % (level, cost)
-        return title, "level", [("cost", 0, level_costs(instance))]
+        return title, "level", [("cost", 0, stock_costs(instance, law, range(max(law.probabilities) + 1)))]
+    if answer.kind == "average":
+        (law,) = stockreader.demand(instance)
+        positions = range(instance["floor"], instance["cap"] + 1)
+        title = "Expected cost of a period at each position; %s, average %s" % (
+            ", ".join("%s %d" % pair for pair in answer.policy[0].items()), cost)
+        return title, "position", [("cost", instance["floor"], stock_costs(instance, law, positions))]
+    if answer.kind == "serial":
+        stages = len(instance["holding"])
+        return "Serial system, " + cost, "period", [
+            ("level of echelon %d" % stage, 1, [line["S"] for line in answer.policy if line["echelon"] == stage])
+            for stage in range(1, stages + 1)]
     if answer.kind == "finite":
         found = highest_orders(answer.policy)
         return "Finite horizon, " + cost, "period", [

@@ -20,8 +20,10 @@ HERE = os.path.dirname(os.path.abspath(__file__))
 PROGRAM = os.path.join(HERE, "..", "..", "stock")
 
 # The kind of the instance, the lines of the policy as dicts from a word to its number, and the exact cost. A period of a
-# finite horizon that is no pair has its orders as a dict from a position to the one that is ordered up to.
-Answer = namedtuple("Answer", "kind policy cost")
+# finite horizon that is no pair has its orders as a dict from a position to the one that is ordered up to. An average cost
+# has its span too: n periods of the policy cost n * cost, give or take the span, and no policy costs less than
+# n * cost - span.
+Answer = namedtuple("Answer", "kind policy cost span", defaults=(None,))
 
 # Whether a certificate is accepted; else the first line that breaks a rule, and the rule.
 Verdict = namedtuple("Verdict", "accepted line rule")
@@ -75,15 +77,30 @@ def policy_of(lines):
 def solve(instance):
     """The optimal policy and its exact cost."""
     _, text = run(["solve"], instance)
-    kind, *policy, cost, _ = text.splitlines()
-    return Answer(kind.split()[1], policy_of(policy), Fraction(cost.split()[1]))
+    kind, *policy, _ = text.splitlines()
+    numbers = {}
+    while policy[-1].split()[0] in ("cost", "span"):
+        word, number = policy.pop().split()
+        numbers[word] = Fraction(number)
+    return Answer(kind.split()[1], policy_of(policy), **numbers)
 
 
 def order_up_to(line, position):
-    """Where a period of a finite horizon's policy orders up to from a position; the position itself where it doesn't."""
+    """Where a line of the policy of a finite horizon or of an average cost orders up to from a position; the position
+    itself where it doesn't order."""
+    if "r" in line:
+        line = {"s": line["r"], "S": line["r"] + line["Q"]}
     if "s" in line:
         return line["S"] if position <= line["s"] else position
     return line["orders"].get(position, position)
+
+
+def stages_up_to(policy, period, stocks):
+    """Where a serial policy raises the echelon stocks to in a period: each to its level, but no higher than the next
+    echelon's stock; one that has reached its level stays."""
+    levels = [line["S"] for line in policy if line["period"] == period]
+    raised = [max(stock, level) for stock, level in zip(stocks, levels)]
+    return [min(to, above) for to, above in zip(raised, stocks[1:])] + raised[-1:]
 
 
 def certify(instance):
