@@ -13,6 +13,7 @@ pub mod ProvenFinite
 pub mod ProvenAverage
 pub mod SerialLines
 pub mod ProvenSerial
+pub mod ProvenNetwork
 pub mod ProvenKinds
 pub mod Checks
 pub mod Texts

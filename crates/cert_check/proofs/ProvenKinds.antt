@@ -25,6 +25,7 @@ use Rattle.value_cert.specs.Kept.{Keeps}
 use Rattle.cert_check.proofs.ProvenAverage.{average_cert_certifies}
 use Rattle.cert_check.proofs.ProvenFinite.{finite_certifies}
 use Rattle.cert_check.proofs.ProvenLots.{lots_certifies, solved_lots_keeps}
+use Rattle.cert_check.proofs.ProvenNetwork.{none_kept}
 use Rattle.cert_check.proofs.ProvenNews.{news_certifies, solved_news_keeps, solved_news_text}
 use Rattle.cert_check.proofs.ProvenSerial.{serial_cert_certifies}
 
@@ -35,6 +36,7 @@ certifies_by (instance.Lots item) c valid has kept = lots_certifies item c valid
 certifies_by (instance.Finite item) c valid has kept = finite_certifies item c valid kept
 certifies_by (instance.Average item) c valid has kept = average_cert_certifies item c valid kept
 certifies_by (instance.Serial item) c valid has kept = serial_cert_certifies item c valid kept
+certifies_by (instance.Network item) c valid has kept = absurd (none_kept c kept)
 
 -- the solver's certificate has a text, and its lines break no rule
 pub record IsKept (item : Instance) (c : Cert) : Type 0 where
@@ -62,3 +64,4 @@ solved_is_kept (instance.Serial item) c valid typed solved =
     let same : cert.Serial (solved_serial item) ≡ c = cc in
     let P : Cert → Type 0 = λ own. IsKept (instance.Serial item) own in
     subst P same (record { has = solved_serial_text item valid; keeps = serial_breaks_nothing item valid.regular.readable })
+solved_is_kept (instance.Network item) c valid typed solved = cc

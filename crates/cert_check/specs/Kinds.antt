@@ -5,6 +5,7 @@ use Rattle.value_cert.specs.declared.line.CertLine.{CertLine}
 use Rattle.cert_check.specs.AverageChecks.{KnowsAverage}
 use Rattle.cert_check.specs.FiniteChecks.{KnowsFinite}
 use Rattle.cert_check.specs.LotsChecks.{KnowsLots}
+use Rattle.cert_check.specs.NetworkChecks.{KnowsNetwork}
 use Rattle.cert_check.specs.NewsChecks.{KnowsNews}
 use Rattle.cert_check.specs.SerialChecks.{KnowsSerial}
 use Rattle.cert_check.specs.declared.kind_check.KindCheck.{KindCheck}
@@ -17,3 +18,4 @@ KnowsKind (kind.Lots rules) instance lines = KnowsLots rules instance lines
 KnowsKind (kind.Finite rules) instance lines = KnowsFinite rules instance lines
 KnowsKind (kind.Average rules) instance lines = KnowsAverage rules instance lines
 KnowsKind (kind.Serial rules) instance lines = KnowsSerial rules instance lines
+KnowsKind (kind.Network rules) instance lines = KnowsNetwork rules instance lines

@@ -4,6 +4,7 @@ pub mod Answers
 pub mod NewsChecks
 pub mod LotCells
 pub mod LotsChecks
+pub mod NetworkChecks
 pub mod FiniteChecks
 pub mod AverageChecks
 pub mod SerialChecks

@@ -1,7 +1,7 @@
 -- How much room a check needs: a room a kind.
 use Rattle.std.specs.Prelude.{ℕ, length}
 use Rattle.decision_model.specs.declared.instance.Instance.{Instance}
-use Rattle.decision_model.specs.declared.instance.Instance.TheVariants.{News, Lots, Finite, Average, Serial}
+use Rattle.decision_model.specs.declared.instance.Instance.TheVariants.{News, Lots, Finite, Average, Serial, Network}
 use Rattle.decision_model.specs.declared.lots.LotSize.{LotSize}
 use Rattle.decision_model.specs.declared.finite.Finite.{Finite as FiniteHorizon}
 use Rattle.decision_model.specs.declared.average.Average.{Average as AverageCost}
@@ -41,6 +41,7 @@ room_of (Lots lots) = lots_room lots
 room_of (Finite finite) = finite_room finite
 room_of (Average average) = average_room average
 room_of (Serial serial) = serial_room serial
+room_of (Network net) = no_room
 
 -- the cells of a check
 abbrev pub cell_count : Instance → ℕ

@@ -7,6 +7,7 @@ use crate::average::AverageCheck;
 use crate::finite::FiniteCheck;
 use crate::kind_rules::KindRules;
 use crate::lots::LotsCheck;
+use crate::network::NetworkCheck;
 use crate::news::NewsCheck;
 use crate::serial::SerialCheck;
 use decision_model::Instance;
@@ -20,6 +21,7 @@ pub(crate) enum KindCheck<'a> {
     Finite(FiniteCheck<'a>),
     Average(AverageCheck<'a>),
     Serial(SerialCheck<'a>),
+    Network(NetworkCheck),
 }
 
 // An answer by the rules of whichever kind.
@@ -31,6 +33,7 @@ macro_rules! of_kind {
             KindCheck::Finite($rules) => $answer,
             KindCheck::Average($rules) => $answer,
             KindCheck::Serial($rules) => $answer,
+            KindCheck::Network($rules) => $answer,
         }
     };
 }
@@ -57,6 +60,7 @@ impl<'a> KindCheck<'a> {
                 KindCheck::Average(AverageCheck::new(average, cells, sums))
             }
             Instance::Serial(serial) => KindCheck::Serial(SerialCheck::new(serial, cells)),
+            Instance::Network(_) => KindCheck::Network(NetworkCheck),
         }
     }
 }

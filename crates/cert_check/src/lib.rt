@@ -12,6 +12,7 @@ mod kind_rules;
 #[cfg(test)]
 mod lot_tests;
 mod lots;
+mod network;
 mod news;
 mod serial;
 mod tables;

@@ -61,7 +61,7 @@ fn room_of(instance: &Instance) -> Room
     ensures { result ≡ room_of instance.now }
 {
     match instance {
-        Instance::News(_) => Room { cells: 0, sums: 0 },
+        Instance::News(_) | Instance::Network(_) => Room { cells: 0, sums: 0 },
         Instance::Lots(lots) => lots_room(lots),
         Instance::Finite(finite) => finite_room(finite),
         Instance::Average(average) => average_room(average),
@@ -69,8 +69,8 @@ fn room_of(instance: &Instance) -> Room
     }
 }
 
-/// How many cells a check of a certificate for the instance works in: none for a newsvendor, one a period for lots, and
-/// otherwise a few for each position of the grid.
+/// How many cells a check of a certificate for the instance works in: none for a newsvendor or a network, one a period for
+/// lots, and otherwise a few for each position of the grid.
 pub fn cells_of(instance: &Instance) -> usize
     requires { IsValid instance.now }
     ensures { result ≡ cell_count instance.now }

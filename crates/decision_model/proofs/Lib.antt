@@ -8,3 +8,6 @@ pub mod WindowSteps
 pub mod WalkSteps
 pub mod WalkBounds
 pub mod WalkCasts
+pub mod Failing
+pub mod PathSteps
+pub mod LoadSteps

@@ -2,7 +2,7 @@
 use Rattle.std.specs.Prelude.{ℕ, List, [], ◌∷◌, codes, Option, find}
 use Rattle.std.specs.Str.{bytes_eq}
 use Rattle.decision_model.specs.declared.instance.Instance.{Instance}
-use Rattle.decision_model.specs.declared.instance.Instance.TheVariants.{News, Lots, Finite, Average, Serial}
+use Rattle.decision_model.specs.declared.instance.Instance.TheVariants.{News, Lots, Finite, Average, Serial, Network}
 use Rattle.decision_model.specs.declared.kinds.Kind.{Kind}
 use Rattle.decision_model.specs.declared.kinds.Kind.TheVariants as kind
 use Rattle.decision_model.specs.Rules.{Rules}
@@ -11,6 +11,7 @@ use Rattle.decision_model.specs.Lots.{lots_rules}
 use Rattle.decision_model.specs.Finite.{finite_rules}
 use Rattle.decision_model.specs.Average.{average_rules}
 use Rattle.decision_model.specs.Serial.{serial_rules}
+use Rattle.decision_model.specs.Network.{network_rules}
 
 -- the one dispatch by kind
 abbrev pub rules_of : Instance → Rules
@@ -19,6 +20,7 @@ rules_of (Lots lots) = lots_rules lots
 rules_of (Finite finite) = finite_rules finite
 rules_of (Average average) = average_rules average
 rules_of (Serial serial) = serial_rules serial
+rules_of (Network net) = network_rules net
 
 abbrev pub kind_of : Instance → Kind
 kind_of instance = (rules_of instance).kind

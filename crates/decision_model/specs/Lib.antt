@@ -8,6 +8,13 @@ pub mod Lots
 pub mod Finite
 pub mod Average
 pub mod Serial
+pub mod Nodes
+pub mod Shape
+pub mod Pauses
+pub mod Load
+pub mod Network
+pub mod Paths
+pub mod NetworkFacts
 pub mod WidthFacts
 pub mod LeadTimes
 pub mod Kind

@@ -7,6 +7,7 @@ use crate::average::Average;
 use crate::finite::Finite;
 use crate::kinds::Kind;
 use crate::lots::LotSize;
+use crate::network::Network;
 use crate::rules::KindRules;
 use crate::serial::Serial;
 use newsvendor::Newsvendor;
@@ -19,6 +20,7 @@ pub enum Instance {
     Finite(Finite),
     Average(Average),
     Serial(Serial),
+    Network(Network),
 }
 
 // The one dispatch by kind: a body over what an instance holds.
@@ -30,6 +32,7 @@ macro_rules! of_any_kind {
             Instance::Finite($held) => $body,
             Instance::Average($held) => $body,
             Instance::Serial($held) => $body,
+            Instance::Network($held) => $body,
         }
     };
 }
@@ -51,8 +54,8 @@ pub fn grid_fits(instance: &Instance) -> bool
     of_any_kind!(instance, held => held.grid_fits())
 }
 
-/// Whether the width number of an instance is at most 2^120. It is true for the kinds that have none, the newsvendor and
-/// lot sizing.
+/// Whether the width number of an instance is at most 2^120. It is true for the kinds that have none: the newsvendor, lot
+/// sizing and networks.
 ///
 /// Where it is true, the fractions that a policy and its certificate are made of have room in 128 bits.
 pub fn width_ok(instance: &Instance) -> bool

@@ -1,4 +1,4 @@
-//! Instances of the solved kinds: what a decision knows before it is made, and when it is valid.
+//! Instances of all kinds: what a decision or a simulation knows before it begins, and when it is valid.
 //!
 //! A kind is one file, here and in the specs: its type, its ranges, its grid of positions and its width number.
 #![tactic(auto)]
@@ -14,8 +14,13 @@ mod kinds;
 #[cfg(test)]
 mod least_tests;
 pub mod limits;
+mod load;
 mod lots;
+mod network;
+#[cfg(test)]
+mod network_tests;
 mod news;
+mod pauses;
 mod problem;
 #[cfg(test)]
 mod problem_tests;
@@ -23,6 +28,7 @@ mod room;
 mod rules;
 mod serial;
 mod serial_problem;
+mod shape;
 mod stock;
 mod sweep;
 #[cfg(test)]
@@ -37,9 +43,13 @@ pub use finite::Finite;
 pub use instance::{Instance, grid_fits, kind, width_ok};
 pub use items::{Amounts, Items, Laws, Positions};
 pub use kinds::Kind;
+pub use load::overloaded_node;
 pub use lots::{LotSize, speculative_period};
+pub use network::{Demand, Link, Network, NodeSpec, Pause, Rule, Span, is_simulated};
+pub use pauses::overlapping_span;
 pub use problem::Problem;
 pub use serial::Serial;
+pub use shape::{count_paths, misshapen_node};
 pub use sweep::Sweep;
 pub use walk::Walk;
 pub use window::Window;

@@ -17,7 +17,7 @@ use demand_law::Law;
 use std::alloc::Global;
 use std::test::Fail;
 
-fn law(alloc: Global, points: &[(u32, u32)]) -> Result<Law, Fail>
+pub(crate) fn law(alloc: Global, points: &[(u32, u32)]) -> Result<Law, Fail>
     ensures { IfOk result IsDemandLaw }
 {
     let law = Law::from_points(alloc, points)?;

@@ -86,7 +86,7 @@ pub rates_back : (most places : ℕ) (list : List ℕ) → All (λ n. n ≤ most
 unfolding amounts_data
 rates_back most places list small same = some_amounts_back most places places list small (omega arith) (omega arith)
 
-is_whole-position : (z : ℤ) → is_whole (position_data z) ≡ true
+pub is_whole-position : (z : ℤ) → is_whole (position_data z) ≡ true
 is_whole-position (pos n) = is_whole-amount n
 is_whole-position (negsuc n) = refl
 

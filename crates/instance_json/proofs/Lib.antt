@@ -2,6 +2,9 @@ pub mod Listed
 pub mod Chained
 pub mod KeyErrs
 pub mod Named
+pub mod ReadItems
+pub mod Texts
+pub mod Places
 pub mod WrittenLists
 pub mod Made
 pub mod LawSum
@@ -13,6 +16,9 @@ pub mod Values
 pub mod BackKeys
 pub mod BackFields
 pub mod Starts
+pub mod BackNames
+pub mod BackItems
+pub mod BackNodes
 pub mod Plain
 pub mod Proven
 pub mod ProvenNews
@@ -20,4 +26,5 @@ pub mod ProvenLots
 pub mod ProvenFinite
 pub mod ProvenAverage
 pub mod ProvenSerial
+pub mod ProvenNetwork
 pub mod ProvenKinds

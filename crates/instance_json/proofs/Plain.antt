@@ -1,4 +1,4 @@
--- The data that are written have no float, and nest five levels at most.
+-- The data that are written have no float, and nest six levels at most.
 use Rattle.std.proofs.Common.{◌≡◌, ℕ, suc, ◌≤◌, min, ℤ, pos, negsuc, List, [], ◌∷◌, map, false, refl, arith}
 use Rattle.std.specs.Prelude.{⊤}
 use Rattle.serde_json.specs.Data.{Data, string, object, depth, items_depth, members_depth}
@@ -18,6 +18,9 @@ ArePlain n (m ∷ ms) = IsPlain n m.1 × ArePlain n ms
 pub deeper : (n m : ℕ) (d : Data) → n ≤ m → IsPlain n d → IsPlain m d
 deeper n m d le plain = (plain.0, omega arith)
 
+pub one_deeper : (n : ℕ) (d : Data) → IsPlain n d → IsPlain (suc n) d
+one_deeper n d plain = (plain.0, omega arith)
+
 items_plain : {A : Type 0} (n : ℕ) (f : A → Data) (xs : List A) → ((x : A) → IsPlain n (f x)) → (items_have_float (items_of (map f xs)) ≡ false) × (items_depth (items_of (map f xs)) ≤ n)
 items_plain n f [] each = (refl, omega arith)
 items_plain n f (x ∷ xs) each =
@@ -25,7 +28,7 @@ items_plain n f (x ∷ xs) each =
     let rest = items_plain n f xs each in
     (rw here.0 rest.0, omega arith)
 
-list_plain : {A : Type 0} (n : ℕ) (f : A → Data) (xs : List A) → ((x : A) → IsPlain n (f x)) → IsPlain (suc n) (list_data (map f xs))
+pub list_plain : {A : Type 0} (n : ℕ) (f : A → Data) (xs : List A) → ((x : A) → IsPlain n (f x)) → IsPlain (suc n) (list_data (map f xs))
 list_plain n f xs each = let items = items_plain n f xs each in (items.0, omega arith)
 
 members_plain : (n : ℕ) (ms : List Named) → ArePlain n ms → (members_have_float (listed ms) ≡ false) × (members_depth (listed ms) ≤ n)

@@ -10,11 +10,11 @@ use Rattle.instance_json.specs.Reads.{kind_in}
 use Rattle.instance_json.proofs.Plain.{IsPlain}
 
 pub record Proven (instance : Instance) : Type 0 where
-  -- what is written says its kind, and has no float and at most five levels
+  -- what is written says its kind, and has no float and at most six levels
   pub kind : kind_in (text_of instance).written ≡ Some (kind_of instance)
-  pub plain : IsPlain 5 (text_of instance).written
+  pub plain : IsPlain 6 (text_of instance).written
   -- it is read back
-  pub back : (text_of instance).typed → IsReadable instance → of_kind (kind_of instance) (text_of instance).written ≡ Ok instance
+  pub back : (text_of instance).typed → IsValid instance → of_kind (kind_of instance) (text_of instance).written ≡ Ok instance
   -- the rules make an instance valid
   pub regular : IsReadable instance → (text_of instance).meets → GridFits instance → IsRegular instance
   pub valid : IsRegular instance → WidthFits instance → IsValid instance

@@ -21,7 +21,7 @@ use Rattle.instance_json.proofs.BackNumbers.{position_back, int_le_is}
 use Rattle.instance_json.proofs.BackLaws.{law_back}
 use Rattle.instance_json.proofs.BackFields.{policy_back}
 use Rattle.instance_json.proofs.BackKeys.{required_back, optional_back, required_amount, optional_amount, in_range_back}
-use Rattle.instance_json.proofs.Plain.{IsPlain, object_plain, amount_plain, position_plain, text_plain, one_law_plain}
+use Rattle.instance_json.proofs.Plain.{IsPlain, one_deeper, object_plain, amount_plain, position_plain, text_plain, one_law_plain}
 use Rattle.instance_json.proofs.Proven.{Proven, again}
 
 abbrev Instance : Type 0
@@ -85,8 +85,8 @@ plain it =
 pub average_proven : (it : Instance) → Proven (Average it)
 average_proven it = record {
   kind = kind_written it;
-  plain = plain it;
-  back = λ typed readable. again Average average_text it (keys it) (values it readable);
+  plain = one_deeper 5 _ (plain it);
+  back = λ typed valid. again Average average_text it (keys it) (values it valid.regular.readable);
   regular = λ readable meets grid. record { readable = readable; has_demand = meets.demand; unit_demand = meets.unit_demand; grid = grid };
   valid = λ regular width. record { regular = regular; width = width };
   readable = λ valid. valid.regular.readable;

@@ -22,7 +22,7 @@ use Rattle.instance_json.proofs.BackNumbers.{amount_back, position_back, cap_bac
 use Rattle.instance_json.proofs.BackLaws.{laws_back}
 use Rattle.instance_json.proofs.BackFields.{discount_back}
 use Rattle.instance_json.proofs.BackKeys.{given_back, given_absent, required_back, optional_back, required_amount, optional_amount, in_range_back}
-use Rattle.instance_json.proofs.Plain.{IsPlain, ArePlain, object_plain, amount_plain, position_plain, text_plain, pair_plain, laws_plain}
+use Rattle.instance_json.proofs.Plain.{IsPlain, ArePlain, one_deeper, object_plain, amount_plain, position_plain, text_plain, pair_plain, laws_plain}
 use Rattle.instance_json.proofs.Proven.{Proven, again}
 use Rattle.std.proofs.Common.{List}
 
@@ -117,8 +117,8 @@ put_most-listed it (Some order) = refl
 pub finite_proven : (it : Instance) → Proven (Finite it)
 finite_proven it = record {
   kind = (under it).kind;
-  plain = plain it;
-  back = λ typed readable. again Finite finite_text it (under it).keys (values it readable);
+  plain = one_deeper 5 _ (plain it);
+  back = λ typed valid. again Finite finite_text it (under it).keys (values it valid.regular.readable);
   regular = λ readable meets grid. record { readable = readable; grid = grid };
   valid = λ regular width. record { regular = regular; width = width };
   readable = λ valid. valid.regular.readable;

@@ -5,8 +5,8 @@ use Rattle.std.proofs.lemmas.Str.{is_utf8-from_IsUtf8}
 use Rattle.serde_json.specs.Read.{read}
 use Rattle.decision_model.specs.declared.kinds.Kind.{Kind}
 use Rattle.decision_model.specs.declared.instance.Instance.{Instance}
-use Rattle.decision_model.specs.declared.instance.Instance.TheVariants.{News, Lots, Finite, Average, Serial}
-use Rattle.decision_model.specs.Valid.{IsReadable, IsValid}
+use Rattle.decision_model.specs.declared.instance.Instance.TheVariants.{News, Lots, Finite, Average, Serial, Network}
+use Rattle.decision_model.specs.Valid.{IsValid}
 use Rattle.instance_json.specs.Kinds.{text_of}
 use Rattle.instance_json.specs.Rules.{rules_of}
 use Rattle.instance_json.specs.Reads.{some_kind, instance_in, fields_in, reads}
@@ -17,6 +17,7 @@ use Rattle.instance_json.proofs.ProvenLots.{lots_proven}
 use Rattle.instance_json.proofs.ProvenFinite.{finite_proven}
 use Rattle.instance_json.proofs.ProvenAverage.{average_proven}
 use Rattle.instance_json.proofs.ProvenSerial.{serial_proven}
+use Rattle.instance_json.proofs.ProvenNetwork.{network_proven}
 
 pub proven : (instance : Instance) → Proven instance
 proven (News news) = news_proven news
@@ -24,13 +25,14 @@ proven (Lots lots) = lots_proven lots
 proven (Finite finite) = finite_proven finite
 proven (Average average) = average_proven average
 proven (Serial serial) = serial_proven serial
+proven (Network net) = network_proven net
 
--- the text of an instance in range has its fields
-fields_back : (bytes : List ℕ) (instance : Instance) → IsUtf8 bytes → read bytes ≡ Some (instance_data instance) → (text_of instance).typed → IsReadable instance → fields_in bytes ≡ Ok instance
+-- the text of a valid instance has its fields
+fields_back : (bytes : List ℕ) (instance : Instance) → IsUtf8 bytes → read bytes ≡ Some (instance_data instance) → (text_of instance).typed → IsValid instance → fields_in bytes ≡ Ok instance
 unfolding fields_in
-fields_back bytes instance utf8 says typed readable =
+fields_back bytes instance utf8 says typed valid =
     let its = proven instance in
-    let again : instance_in (instance_data instance) ≡ Ok instance = ap (λ (k : Option Kind). some_kind k (instance_data instance)) its.kind ∙ its.back typed readable in
+    let again : instance_in (instance_data instance) ≡ Ok instance = ap (λ (k : Option Kind). some_kind k (instance_data instance)) its.kind ∙ its.back typed valid in
     rw (is_utf8-from_IsUtf8 bytes utf8, says) again
 
 rules_met : (instance : Instance) → IsValid instance → rules_of instance ≡ Ok tt
@@ -41,5 +43,5 @@ rules_met instance valid = let its = proven instance in rw (its.met valid, its.g
 pub reads_back : (bytes : List ℕ) (instance : Instance) → IsUtf8 bytes → read bytes ≡ Some (instance_data instance) → (text_of instance).typed → IsValid instance → reads bytes ≡ Ok instance
 unfolding reads
 reads_back bytes instance utf8 says typed valid =
-    let fields = fields_back bytes instance utf8 says typed ((proven instance).readable valid) in
+    let fields = fields_back bytes instance utf8 says typed valid in
     rw (fields, rules_met instance valid) refl

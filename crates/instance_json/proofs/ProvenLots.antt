@@ -15,7 +15,7 @@ use Rattle.instance_json.specs.Lots.{lots_keys, lots_of, lots_members, lots_data
 use Rattle.instance_json.specs.Reads.{kind_in}
 use Rattle.instance_json.proofs.BackNumbers.{some_amounts_back, rates_back}
 use Rattle.instance_json.proofs.BackKeys.{required_back, optional_back}
-use Rattle.instance_json.proofs.Plain.{IsPlain, object_plain, amounts_plain, text_plain}
+use Rattle.instance_json.proofs.Plain.{IsPlain, one_deeper, object_plain, amounts_plain, text_plain}
 use Rattle.instance_json.proofs.Proven.{Proven, again}
 
 -- what stands under each key
@@ -68,8 +68,8 @@ plain lots =
 pub lots_proven : (lots : LotSize) → Proven (Lots lots)
 lots_proven lots = record {
   kind = kind_written lots;
-  plain = plain lots;
-  back = λ typed readable. again Lots lots_text lots (keys lots) (values lots readable);
+  plain = one_deeper 5 _ (plain lots);
+  back = λ typed valid. again Lots lots_text lots (keys lots) (values lots valid.readable);
   regular = λ readable meets grid. record { readable = readable; no_speculation = meets };
   valid = λ regular width. regular;
   readable = λ valid. valid.readable;

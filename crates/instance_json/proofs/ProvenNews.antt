@@ -13,7 +13,7 @@ use Rattle.instance_json.specs.News.{news_keys, news_of, news_members, news_data
 use Rattle.instance_json.specs.Reads.{kind_in}
 use Rattle.instance_json.proofs.BackLaws.{law_back}
 use Rattle.instance_json.proofs.BackKeys.{required_back, required_amount, in_range_back}
-use Rattle.instance_json.proofs.Plain.{IsPlain, object_plain, amount_plain, text_plain, one_law_plain}
+use Rattle.instance_json.proofs.Plain.{IsPlain, one_deeper, object_plain, amount_plain, text_plain, one_law_plain}
 use Rattle.instance_json.proofs.Proven.{Proven, again}
 use Rattle.decision_model.specs.declared.kinds.Kind.TheVariants as kind
 use Rattle.decision_model.specs.Kind.{kind_word}
@@ -64,8 +64,8 @@ plain news =
 pub news_proven : (news : NewsvendorItem) → Proven (News news)
 news_proven news = record {
   kind = kind_written news;
-  plain = plain news;
-  back = λ typed readable. again News news_text news (keys news) (values news typed);
+  plain = one_deeper 5 _ (plain news);
+  back = λ typed valid. again News news_text news (keys news) (values news typed);
   regular = λ readable meets grid. tt;
   valid = λ regular width. tt;
   readable = λ valid. tt;

@@ -19,7 +19,7 @@ use Rattle.instance_json.proofs.BackNumbers.{cap_back, some_amounts_back, rates_
 use Rattle.instance_json.proofs.BackLaws.{laws_back}
 use Rattle.instance_json.proofs.BackFields.{discount_back, is_start_back}
 use Rattle.instance_json.proofs.BackKeys.{given_absent, required_back, optional_back, required_amount, in_range_back}
-use Rattle.instance_json.proofs.Plain.{IsPlain, object_plain, amount_plain, amounts_plain, position_plain, positions_plain, text_plain, pair_plain, laws_plain}
+use Rattle.instance_json.proofs.Plain.{IsPlain, one_deeper, object_plain, amount_plain, amounts_plain, position_plain, positions_plain, text_plain, pair_plain, laws_plain}
 use Rattle.instance_json.proofs.Proven.{Proven, again}
 
 abbrev Instance : Type 0
@@ -76,8 +76,8 @@ plain it =
 pub serial_proven : (it : Instance) → Proven (Serial it)
 serial_proven it = record {
   kind = kind_written it;
-  plain = plain it;
-  back = λ typed readable. again Serial serial_text it (keys it) (values it readable);
+  plain = one_deeper 5 _ (plain it);
+  back = λ typed valid. again Serial serial_text it (keys it) (values it valid.regular.readable);
   regular = λ readable meets grid. record { readable = readable; grid = grid };
   valid = λ regular width. record { regular = regular; width = width };
   readable = λ valid. valid.regular.readable;

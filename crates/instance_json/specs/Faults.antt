@@ -1,6 +1,7 @@
 -- Faults of keys, and what a reader's answer says.
 use Rattle.std.specs.Prelude.{◌≡◌, ℕ, List, Result, Ok, Err, ⊤}
 use Rattle.instance_json.specs.declared.fault.Key.{Key}
+use Rattle.instance_json.specs.declared.fault.KeyList.{KeyList}
 use Rattle.instance_json.specs.declared.fault.KeyList.TheVariants.{Top}
 use Rattle.instance_json.specs.declared.fault.FieldFault.{FieldFault}
 use Rattle.instance_json.specs.declared.fault.FieldFault.TheVariants.{WrongType, OutOfRange, LengthMismatch, BadLaw}
@@ -53,3 +54,28 @@ Gives (Err e) reading = Refuses e reading
 abbrev pub MatchErr : InstanceErr → (InstanceFault → Type 0) → Type 0
 MatchErr (Bad f) P = P f
 MatchErr Memory P = ⊤
+
+-- ---- items of a list
+-- the key of an item, whose place is from 1
+abbrev pub item_key : KeyList → ℕ → Key → Key
+item_key list place key = record { list = list; item = place; name = key.name }
+
+-- a fault of a key, told of the item that has the key
+abbrev pub at_item : KeyList → ℕ → InstanceFault → InstanceFault
+at_item list place (instance.Missing key) = instance.Missing (item_key list place key)
+at_item list place (instance.UnknownKey key) = instance.UnknownKey (item_key list place key)
+at_item list place (instance.WrongType key) = instance.WrongType (item_key list place key)
+at_item list place (instance.OutOfRange key) = instance.OutOfRange (item_key list place key)
+at_item list place (instance.LengthMismatch key) = instance.LengthMismatch (item_key list place key)
+at_item list place (instance.BadLaw key f) = instance.BadLaw (item_key list place key) f
+at_item list place fault = fault
+
+-- the reading of an item, with the item of its fault
+abbrev pub of_item : {A : Type 0} → KeyList → ℕ → Result A InstanceFault → Result A InstanceFault
+of_item list place (Ok a) = Ok a
+of_item list place (Err f) = Err (at_item list place f)
+
+-- the refusal of an item
+abbrev pub item_err : KeyList → ℕ → InstanceErr → InstanceErr
+item_err list place (Bad f) = Bad (at_item list place f)
+item_err list place Memory = Memory

@@ -1,6 +1,6 @@
 // Why a text says no instance, and where.
 ghost use Rattle.std.specs.Prelude.{◌≡◌, IfOk, IfErr};
-ghost use Rattle.instance_json.specs.Faults.{top_key, fault_of_key, IsKeyErr};
+ghost use Rattle.instance_json.specs.Faults.{top_key, fault_of_key, IsKeyErr, item_key, at_item, item_err};
 
 use demand_law::LawFault;
 use fraction128::Text;
@@ -34,7 +34,7 @@ pub enum InstanceFault {
     NotJson,
     /// The value isn't an object with the name of a kind.
     UnknownKind,
-    /// The kind's reader isn't built yet.
+    /// A network has drawn demand or a rule of the caller's own, which aren't built yet.
     NotBuilt,
     /// A required key is absent.
     Missing(Key),
@@ -165,5 +165,45 @@ pub fn key_err(alloc: Global, name: &str, error: FieldErr) -> InstanceErr
             Ok(key) => InstanceErr::Bad(fault_of_key(key, fault)),
             Err(refused) => refused,
         },
+    }
+}
+
+// The key of an item, whose place is from 1.
+fn item_key(list: KeyList, place: u32, key: Key) -> Key
+    ensures { result ≡ item_key list place key }
+{
+    Key {
+        list,
+        item: place,
+        name: key.name,
+    }
+}
+
+// A fault of a key, told of the item that has the key.
+fn at_item(list: KeyList, place: u32, fault: InstanceFault) -> InstanceFault
+    ensures { result ≡ at_item list place fault }
+{
+    match fault {
+        InstanceFault::Missing(key) => InstanceFault::Missing(item_key(list, place, key)),
+        InstanceFault::UnknownKey(key) => InstanceFault::UnknownKey(item_key(list, place, key)),
+        InstanceFault::WrongType(key) => InstanceFault::WrongType(item_key(list, place, key)),
+        InstanceFault::OutOfRange(key) => InstanceFault::OutOfRange(item_key(list, place, key)),
+        InstanceFault::LengthMismatch(key) => {
+            InstanceFault::LengthMismatch(item_key(list, place, key))
+        }
+        InstanceFault::BadLaw(key, law_fault) => {
+            InstanceFault::BadLaw(item_key(list, place, key), law_fault)
+        }
+        fault => fault,
+    }
+}
+
+// The refusal of an item.
+pub fn item_err(list: KeyList, place: u32, error: InstanceErr) -> InstanceErr
+    ensures { result ≡ item_err list place error }
+{
+    match error {
+        InstanceErr::Bad(fault) => InstanceErr::Bad(at_item(list, place, fault)),
+        InstanceErr::Memory => InstanceErr::Memory,
     }
 }

@@ -59,7 +59,7 @@ pub fn of_kind(alloc: Global, kind: Kind, object: &Value) -> Result<Instance, In
         Kind::Finite => Ok(Instance::Finite(read_by(alloc, object)?)),
         Kind::Average => Ok(Instance::Average(read_by(alloc, object)?)),
         Kind::Serial => Ok(Instance::Serial(read_by(alloc, object)?)),
-        Kind::Network => Err(InstanceErr::Bad(InstanceFault::NotBuilt)),
+        Kind::Network => Ok(Instance::Network(read_by(alloc, object)?)),
     }
 }
 
@@ -72,6 +72,7 @@ macro_rules! of_any_kind {
             Instance::Finite($held) => $body,
             Instance::Average($held) => $body,
             Instance::Serial($held) => $body,
+            Instance::Network($held) => $body,
         }
     };
 }

@@ -88,7 +88,7 @@ fn are_pairs(test: NumberTest, list: &[Value]) -> bool
 }
 
 // How many keys an object has, 0 for any other value.
-fn count_keys(value: &Value) -> usize
+pub fn count_keys(value: &Value) -> usize
     ensures { result ≡ key_count (as_object (view value.now)) }
 {
     match value.as_object() {

@@ -45,7 +45,7 @@ fn check_laws(list: &[Value]) -> Result<(), FieldFault>
 }
 
 // The law that a value says.
-fn law(alloc: Global, value: &Value) -> Result<Law, FieldErr>
+pub fn law(alloc: Global, value: &Value) -> Result<Law, FieldErr>
     ensures value { GivesField result (law_in (view value.now)) }
     ensures demand { IfOk result IsDemandLaw }
 {

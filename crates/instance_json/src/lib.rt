@@ -9,16 +9,26 @@ mod fault;
 mod fields;
 mod finite;
 mod form;
+mod items;
 mod keys;
 mod kinds;
 mod law_texts;
 mod laws;
 mod lots;
+mod names;
+mod network;
+#[cfg(test)]
+mod network_tests;
+mod network_values;
 mod news;
+mod nodes;
 mod numbers;
+mod order_rules;
+mod pauses;
 mod read;
 mod rules;
 mod serial;
+mod sources;
 #[cfg(test)]
 mod tests;
 mod write;

@@ -57,7 +57,7 @@ pub fn count_of(value: &Value, least: u32, most: u32) -> Result<u32, FieldFault>
 }
 
 // A whole number from -1,000,000 to 1,000,000.
-fn position_of(value: &Value) -> Result<i64, FieldFault>
+pub fn position_of(value: &Value) -> Result<i64, FieldFault>
     ensures value { result ≡ position_in (view value.now) }
     ensures range { IfOk result IsPosition }
 {
@@ -132,7 +132,7 @@ pub fn items(value: &Value) -> Option<&[Value]>
 }
 
 // The items of a list of whole numbers.
-fn whole_items(value: &Value) -> Result<&[Value], FieldFault>
+pub fn whole_items(value: &Value) -> Result<&[Value], FieldFault>
     ensures { MatchResult result
         (λ list. all_whole (items_in (view value.now)) ≡ Ok (map view list.now))
         (λ fault. all_whole (items_in (view value.now)) ≡ Err fault) }

@@ -60,8 +60,9 @@ fn fields_in(alloc: Global, bytes: &[u8]) -> Result<Instance, InstanceErr>
 ///
 /// Faults are looked for in this order: the bytes are no JSON; the value says no kind; a required key is absent; a key
 /// isn't the kind's; the value of a key, in the order of the kind's table, has a wrong shape, a number out of range, a
-/// list of a wrong length or a law that can't be made; a rule over several keys is broken. Of a repeated key the last
-/// counts.
+/// list of a wrong length or a law that can't be made; a rule over several keys is broken. The nodes and the pauses of a
+/// network pass the tests of their own keys one by one, where the key of their list is reached. Of a repeated key the
+/// last counts.
 #[tactic(auto, using(crate::proofs::Chained::gives_refused, crate::proofs::Chained::gives_rest, crate::proofs::Chained::taken), unfolding(crate::specs::Reads::reads))]
 pub fn read_instance(alloc: Global, bytes: &[u8]) -> Result<Instance, InstanceErr>
     ensures value { Gives result (reads bytes.now) }

@@ -59,7 +59,6 @@ fn refuses_a_text_without_a_kind(rt: HostRuntime) {
         ("{\"holding\":1}", "unknown kind"),
         ("{\"kind\":1}", "unknown kind"),
         ("{\"kind\":\"Lots\"}", "unknown kind"),
-        ("{\"kind\":\"network\"}", "not built yet"),
     ] {
         refused(&rt, rt.alloc(), text, "", reason);
     }

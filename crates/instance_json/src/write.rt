@@ -12,8 +12,8 @@ use std::alloc::Global;
 
 /// The JSON text of an instance, with no space and its keys in byte order.
 ///
-/// Each optional key is written but `total`, and `most` where there is no greatest order. What may be a number or a
-/// list is a list, a law is its points by ascending demand, and a list of one law is that law.
+/// Each optional key is written but `total`, and `most`, `seed` and the `demand` of a node where there is none. What may
+/// be a number or a list is a list, a law is its points by ascending demand, and a list of one law is that law.
 pub fn write_instance(alloc: Global, instance: &Instance) -> Result<Vec<u8>, Memory>
     ensures text { IfOk result (λ bytes. bytes.items ≡ instance_text instance.now) }
     ensures reads_back { IsValid instance.now → IfOk result (λ bytes. reads bytes.items ≡ Ok instance.now) }

@@ -3,7 +3,7 @@ use Rattle.std.specs.Prelude.{ℕ, ◌+◌, List, [], ◌∷◌, ◌++◌, Bool,
 use Rattle.std.specs.List.{flat_map, range_with_len}
 use Rattle.demand_law.specs.Sequences.{law_at, laws_at, law_of_sum}
 use Rattle.decision_model.specs.declared.instance.Instance.{Instance}
-use Rattle.decision_model.specs.declared.instance.Instance.TheVariants.{News, Lots, Finite, Average, Serial}
+use Rattle.decision_model.specs.declared.instance.Instance.TheVariants.{News, Lots, Finite, Average, Serial, Network}
 use Rattle.report_text.specs.Laws.{law_text}
 
 -- the law of the demand of `count` periods together, the first of them at a place of the list of laws
@@ -26,9 +26,10 @@ same_text periods text = flat_map (λ place. numbered_text (place + 1) ++ text) 
 abbrev pub periods_text : ℕ → (ℕ → List ℕ) → List ℕ
 periods_text periods law = flat_map (λ place. period_text (place + 1) (law place)) (range_with_len 0 periods)
 
--- the instance has laws of demand: the demand of lot sizing is known
+-- the instance has laws of demand: the demand of lot sizing is known, and a network has a demand a node
 abbrev pub has_laws : Instance → Bool
 has_laws (Lots lots) = false
+has_laws (Network net) = false
 has_laws _ = true
 
 -- the law of the one period of a newsvendor, of the lead time with its period's demand, of that from each period on, or
@@ -36,6 +37,7 @@ has_laws _ = true
 abbrev pub demand_text_of : Instance → List ℕ
 demand_text_of (News newsvendor) = law_text newsvendor.law
 demand_text_of (Lots lots) = []
+demand_text_of (Network net) = []
 demand_text_of (Finite finite) = periods_text finite.periods (λ place. law_of_periods finite.laws place (finite.lead + 1))
 demand_text_of (Average average) = law_text (law_of_periods (average.law ∷ []) 0 (average.lead + 1))
 demand_text_of (Serial serial) = periods_text serial.periods (law_at serial.laws)

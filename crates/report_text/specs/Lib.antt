@@ -6,4 +6,5 @@ pub mod Lots
 pub mod Finite
 pub mod Average
 pub mod Serial
+pub mod Network
 pub mod Reports

@@ -11,12 +11,12 @@ use std::alloc::Global;
 #[cfg(test)]
 mod tests;
 
-/// Whether an instance has laws of demand. That of lot sizing is known.
+/// Whether an instance has laws of demand. That of lot sizing is known, and a network is no decision over its demand.
 pub fn has_laws(instance: &Instance) -> bool
     ensures { result ≡ has_laws instance.now }
 {
     match instance {
-        Instance::Lots(_) => false,
+        Instance::Lots(_) | Instance::Network(_) => false,
         _ => true,
     }
 }
@@ -28,7 +28,7 @@ fn push_demand(alloc: Global, out: &mut Text, instance: &Instance) -> Result<(),
 {
     match instance {
         Instance::News(newsvendor) => news::push_demand(out, newsvendor),
-        Instance::Lots(_) => Ok(()),
+        Instance::Lots(_) | Instance::Network(_) => Ok(()),
         Instance::Finite(finite) => finite::push_demand(alloc, out, finite),
         Instance::Average(average) => average::push_demand(alloc, out, average),
         Instance::Serial(serial) => serial::push_demand(alloc, out, serial),

@@ -115,7 +115,7 @@ command_status : (c : Command) (f : Fault) → command_fault c ≡ Some f → st
 command_status (command.Solve at) f e = absurd (cc e)
 command_status (command.Certify at) f e = absurd (cc e)
 command_status (command.Demand at) f e = absurd (cc e)
-command_status (command.Simulate at) f e = let same : f ≡ fault.NotBuilt = cc e in ap status_of same
+command_status (command.Simulate at) f e = absurd (cc e)
 command_status (command.Check None None) f e = let same : f ≡ fault.TwoInputs 3 = cc e in ap status_of same
 command_status (command.Check None (Some cert)) f e = absurd (cc e)
 command_status (command.Check (Some at) cert) f e = absurd (cc e)

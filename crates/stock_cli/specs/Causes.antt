@@ -26,7 +26,6 @@ use Rattle.stock_cli.specs.declared.status.Status.TheVariants as status
 
 -- ---- faults of the words
 abbrev pub command_fault : Command → Option Fault
-command_fault (command.Simulate input) = Some fault.NotBuilt
 command_fault (command.Trial number) = Some fault.NotBuilt
 command_fault (command.Check None None) = Some (fault.TwoInputs 3)
 command_fault _ = None
@@ -44,6 +43,7 @@ abbrev pub IsInputOf : Command → Option ℕ → Type 0
 IsInputOf (command.Solve input) place = place ≡ input
 IsInputOf (command.Certify input) place = place ≡ input
 IsInputOf (command.Demand input) place = place ≡ input
+IsInputOf (command.Simulate input) place = place ≡ input
 IsInputOf (command.Check instance cert) place = (place ≡ instance) ⊎ (place ≡ cert)
 IsInputOf _ place = ⊥
 
@@ -71,6 +71,7 @@ abbrev pub ComesTo : Option (List ℕ) → Option Held → List (String Global) 
 ComesTo left held words (command.Solve place) = λ input. input ≡ input_at words place
 ComesTo left held words (command.Certify place) = λ input. input ≡ input_at words place
 ComesTo left held words (command.Demand place) = λ input. input ≡ input_at words place
+ComesTo left held words (command.Simulate place) = λ input. input ≡ input_at words place
 ComesTo left held words (command.Check place cert) = ComparesInput (content_of left held (input_at words place)) (input_at words place) (input_at words cert)
 ComesTo left held words _ = λ input. ⊥
 

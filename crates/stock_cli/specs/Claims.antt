@@ -1,11 +1,17 @@
 -- What the output of a run that is done claims.
-use Rattle.std.specs.Prelude.{◌≡◌, ℕ, List, IfSome, Option, None, Result, Ok, String}
+use Rattle.std.specs.Prelude.{◌≡◌, ℕ, List, length, map, IfSome, Option, None, Result, Ok, String}
+use Rattle.std.specs.List.{range_with_len}
 use Rattle.std.specs.declared.alloc.Global.{Global}
 use Rattle.decision_model.specs.declared.instance.Instance.{Instance}
+use Rattle.decision_model.specs.declared.instance.Instance.TheVariants as variant
+use Rattle.decision_model.specs.declared.network.Network.{Network}
+use Rattle.node_state.specs.Totals.{IsRun, line}
+use Rattle.node_state.specs.Table.{network_row, setting_of}
 use Rattle.instance_json.specs.Reads.{reads}
 use Rattle.value_cert.specs.Meaning.{Certifies}
 use Rattle.value_cert.specs.Texts.{HasText, cert_text}
 use Rattle.value_cert.specs.declared.cert.Cert.{Cert}
+use Rattle.report_text.specs.Network.{table_text}
 use Rattle.report_text.specs.Reports.{report_of}
 use Rattle.report_text.specs.declared.faults.Fault.{Fault}
 use Rattle.stock_edge.specs.HeldFiles.{Held}
@@ -38,11 +44,22 @@ IsReport text instance = NamesLeastPolicy instance (λ c. text ≡ report_of ins
 abbrev pub IsCertificate : List ℕ → Instance → Type 0
 IsCertificate text instance = NamesLeastPolicy instance (λ c. text ≡ cert_text c)
 
+-- the text is the table of the instance, a network: the lines that follow, period by period, from orders and served units that keep the network's equations
+pub record IsTable (text : List ℕ) (instance : Instance) : Type 0 where
+  pub network : Network
+  pub is : instance ≡ variant.Network network
+  pub text_is : text ≡ table_text network
+  pub orders : ℕ → ℕ → ℕ
+  pub served : ℕ → ℕ → List ℕ
+  pub run : IsRun (setting_of network) orders served
+  pub rows : (t : ℕ) → network_row network t ≡ map (λ i. line (setting_of network) orders served i t) (range_with_len 0 (length network.nodes))
+
 -- what the answer to a question claims
 abbrev pub QuestionClaims : Question → List ℕ → Instance → Type 0
 QuestionClaims question.Solve text instance = IsReport text instance
 QuestionClaims question.Certify text instance = IsCertificate text instance
 QuestionClaims question.Demand text instance = Unit {0}
+QuestionClaims question.Simulate text instance = IsTable text instance
 
 -- the content is a certificate of such a policy
 abbrev pub HoldsCertificate : Content → Instance → Type 0
@@ -56,6 +73,7 @@ CompareClaims content cert = IfSome content (λ found. OfInstance found (HoldsCe
 abbrev pub Claims : Option (List ℕ) → Option Held → List (String Global) → List ℕ → Command → Type 0
 Claims left held words text (command.Solve place) = IfSome (content_of left held (input_at words place)) (λ found. OfInstance found (IsReport text))
 Claims left held words text (command.Certify place) = IfSome (content_of left held (input_at words place)) (λ found. OfInstance found (IsCertificate text))
+Claims left held words text (command.Simulate place) = IfSome (content_of left held (input_at words place)) (λ found. OfInstance found (IsTable text))
 Claims left held words text (command.Check None None) = Unit {0}
 Claims left held words text (command.Check place cert) = CompareClaims (content_of left held (input_at words place)) (content_of left held (input_at words cert))
 Claims left held words text _ = Unit {0}

@@ -2,6 +2,7 @@ pub mod Words
 pub mod Status
 pub mod Inputs
 pub mod Outcome
+pub mod Runs
 pub mod Claims
 pub mod Causes
 pub mod Checks

@@ -3,14 +3,16 @@ use Rattle.std.specs.Prelude.{ℕ, List, [], ◌++◌, length, codes, decimal, i
 use Rattle.std.specs.declared.alloc.Global.{Global}
 use Rattle.decision_model.specs.Kind.{kind_of}
 use Rattle.decision_model.specs.declared.instance.Instance.{Instance}
+use Rattle.decision_model.specs.declared.instance.Instance.TheVariants as instance
+use Rattle.decision_model.specs.Network.{IsValidNetwork}
 use Rattle.instance_json.specs.Reads.{reads}
 use Rattle.instance_json.specs.declared.fault.InstanceFault.{InstanceFault}
-use Rattle.instance_json.specs.declared.fault.InstanceFault.TheVariants as instance_fault
 use Rattle.value_cert.specs.Breaches.{Breach, text_breach}
 use Rattle.value_cert.specs.Meaning.{solved_cert}
 use Rattle.value_cert.specs.Texts.{HasText, cert_text}
 use Rattle.value_cert.specs.declared.cert.Cert.{Cert}
 use Rattle.report_text.specs.Demand.{has_laws, demand_text_of}
+use Rattle.report_text.specs.Network.{table_text}
 use Rattle.report_text.specs.Reports.{report_of, help_words}
 use Rattle.report_text.specs.declared.faults.Fault.{Fault}
 use Rattle.report_text.specs.declared.faults.Fault.TheVariants as fault
@@ -44,26 +46,32 @@ abbrev pub refused : Fault → Ending
 refused f = Some (Err f)
 
 -- ---- what each command makes of an instance
--- something of the instance's certificate, for the kinds whose solver is built
-abbrev pub of_cert : (Cert → List ℕ) → Option Cert → Result Output Fault
-of_cert text (Some c) = done (text c)
-of_cert text None = Err (fault.Instance instance_fault.NotBuilt)
+-- something of the instance's certificate, for the kinds that are solved
+abbrev pub of_cert : (Cert → List ℕ) → Instance → Option Cert → Result Output Fault
+of_cert text instance (Some c) = done (text c)
+of_cert text instance None = Err (fault.NotThisCommand (kind_of instance))
 
 abbrev pub solve_outcome : Instance → Result Output Fault
-solve_outcome instance = of_cert (report_of instance) (solved_cert instance)
+solve_outcome instance = of_cert (report_of instance) instance (solved_cert instance)
 
 abbrev pub certify_outcome : Instance → Result Output Fault
-certify_outcome instance = of_cert cert_text (solved_cert instance)
+certify_outcome instance = of_cert cert_text instance (solved_cert instance)
 
 -- the laws of demand, for the kinds that have them
 abbrev pub demand_outcome : Instance → Result Output Fault
 demand_outcome instance = if has_laws instance then done (demand_text_of instance) else Err (fault.NotThisCommand (kind_of instance))
+
+-- the table of a network
+abbrev pub simulate_outcome : Instance → Result Output Fault
+simulate_outcome (instance.Network net) = done (table_text net)
+simulate_outcome instance = Err (fault.NotThisCommand (kind_of instance))
 
 -- a question that needs one instance and nothing else
 abbrev pub question_outcome : Question → Instance → Result Output Fault
 question_outcome question.Solve instance = solve_outcome instance
 question_outcome question.Certify instance = certify_outcome instance
 question_outcome question.Demand instance = demand_outcome instance
+question_outcome question.Simulate instance = simulate_outcome instance
 
 abbrev pub accepted_text : List ℕ
 accepted_text = codes "accepted\n"
@@ -81,10 +89,10 @@ verdict_ending instance None = None
 verdict_ending instance (Some (Ok text)) = Some (Ok (verdict_output (text_breach instance text)))
 verdict_ending instance (Some (Err f)) = refused f
 
--- a certificate is checked for the kinds whose solver is built
+-- a certificate is checked for the kinds that are solved
 abbrev pub check_ending : Content → Instance → Option Cert → Ending
 check_ending content instance (Some c) = verdict_ending instance content
-check_ending content instance None = refused (fault.Instance instance_fault.NotBuilt)
+check_ending content instance None = refused (fault.NotThisCommand (kind_of instance))
 
 -- ---- reading the instance
 abbrev pub read_ending : (Instance → Ending) → Result Instance InstanceFault → Ending
@@ -116,7 +124,7 @@ command_ending left held words (command.Certify place) = question_ending questio
 command_ending left held words (command.Demand place) = question_ending question.Demand (content_of left held (input_at words place))
 command_ending left held words (command.Check None None) = refused (fault.TwoInputs 3)
 command_ending left held words (command.Check place cert) = compare_ending (content_of left held (input_at words place)) (content_of left held (input_at words cert))
-command_ending left held words (command.Simulate place) = refused fault.NotBuilt
+command_ending left held words (command.Simulate place) = question_ending question.Simulate (content_of left held (input_at words place))
 command_ending left held words (command.Trial number) = refused fault.NotBuilt
 command_ending left held words command.Help = Some (done help_words)
 
@@ -142,9 +150,11 @@ abbrev pub output_of : Answer → Output
 output_of (answer.Printed text) = record { status = Done; text = text }
 output_of (answer.Rejection text) = record { status = Rejected; text = text }
 output_of (answer.Certificate c) = record { status = Done; text = cert_text c }
+output_of (answer.Simulation net) = record { status = Done; text = table_text net }
 output_of answer.Help = record { status = Done; text = help_words }
 
--- a certificate that is to be written has a text
+-- a certificate that is to be written has a text, and a network that is to run is valid
 abbrev pub AnswerHasText : Answer → Type 0
 AnswerHasText (answer.Certificate c) = HasText c
+AnswerHasText (answer.Simulation net) = IsValidNetwork net
 AnswerHasText _ = Unit {0}

@@ -1,4 +1,4 @@
--- The kinds whose solver is built.
+-- The kinds that are solved.
 use Rattle.std.specs.Prelude.{IsSome}
 use Rattle.decision_model.specs.declared.instance.Instance.{Instance}
 use Rattle.decision_model.specs.declared.instance.Instance.TheVariants as instance
@@ -6,7 +6,7 @@ use Rattle.value_cert.specs.Meaning.{solved_cert}
 use Rattle.stock_cli.specs.declared.solvers.Solver.{Solver}
 use Rattle.stock_cli.specs.declared.solvers.Solver.TheVariants as solver
 
--- the solver of the instance's kind is built
+-- the instance's kind is solved
 abbrev pub IsBuilt : Instance → Type 0
 IsBuilt instance = IsSome (solved_cert instance)
 

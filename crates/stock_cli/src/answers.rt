@@ -1,13 +1,16 @@
 // What a run puts on standard output.
-ghost use Rattle.std.specs.Prelude.{◌≡◌, OnOk};
+ghost use Rattle.std.specs.Prelude.{◌≡◌, ◌≢◌, ◌≤◌, Err, OnOk};
 ghost use Rattle.std.specs.Io.KnownBytes.{Appends};
-ghost use Rattle.stock_edge.specs.Causes.{AppendsPrefix, HasCause};
+ghost use Rattle.stock_edge.specs.Causes.{AppendsPrefix, Rose};
 ghost use Rattle.stock_cli.specs.Outcome.{output_of, AnswerHasText};
 
+use crate::runs::{RunErr, run_network};
 use crate::status::Status;
+use decision_model::Network;
 use fraction128::Text;
 use report_text::help_text;
-use stock_edge::{Failed, Sink, write_all};
+use std::alloc::Global;
+use stock_edge::{Sink, write_all};
 use value_cert::{Cert, write_cert};
 
 /// What is to be written, before any of it is.
@@ -19,6 +22,8 @@ pub enum Answer {
     Rejection(Text),
     /// A certificate, whose text is made as it is written.
     Certificate(Cert),
+    /// A network, which runs as its table is written.
+    Simulation(Network),
     /// The text of `help`.
     Help,
 }
@@ -33,17 +38,21 @@ pub fn status_with(answer: &Answer) -> Status
     }
 }
 
-/// Writes an answer. After a fault a prefix of it was written. It takes no memory.
-pub fn write_answer<O: Sink>(answer: &Answer, out: &mut O) -> Result<(), Failed>
+/// Writes an answer. After a fault a prefix of it was written. Only the run of a network takes memory.
+pub fn write_answer<O: Sink>(alloc: Global, answer: &Answer, out: &mut O) -> Result<(), RunErr>
     requires { AnswerHasText answer.now }
     ensures whole { OnOk result (Appends (O.written out.old) (O.written out.new) (output_of answer.now).text) }
     ensures prefix { AppendsPrefix (O.written out.old) (O.written out.new) (output_of answer.now).text }
-    ensures cause { HasCause (O.faults out.old) (O.faults out.new) result }
+    ensures later { O.faults out.old ≤ O.faults out.new }
+    ensures cause { result ≡ Err RunErr.Write → Rose (O.faults out.old) (O.faults out.new) }
+    ensures memory { answer.now ≡ Answer.Help → result ≢ Err RunErr.Memory }
 {
     match answer {
-        Answer::Printed(text) => write_all(out, text.bytes()),
-        Answer::Rejection(text) => write_all(out, text.bytes()),
-        Answer::Certificate(cert) => write_cert(cert, out),
-        Answer::Help => write_all(out, help_text().as_bytes()),
+        Answer::Printed(text) => write_all(out, text.bytes())?,
+        Answer::Rejection(text) => write_all(out, text.bytes())?,
+        Answer::Certificate(cert) => write_cert(cert, out)?,
+        Answer::Simulation(net) => run_network(alloc, net, out)?,
+        Answer::Help => write_all(out, help_text().as_bytes())?,
     }
+    Ok(())
 }

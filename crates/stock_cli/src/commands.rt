@@ -16,6 +16,7 @@ use crate::certify::certify;
 use crate::check::check;
 use crate::demand::demand;
 use crate::inputs::{Input, read_from};
+use crate::simulate::simulate;
 use crate::solve::solve;
 use crate::status::Status;
 use crate::words::Command;
@@ -30,22 +31,24 @@ pub enum Question {
     Solve,
     Certify,
     Demand,
+    Simulate,
 }
 
 // The answer to a question on an instance.
-fn answer_on(alloc: Global, question: Question, instance: &Instance) -> Result<Answer, Fault>
-    requires { IsValid instance.now }
-    ensures ok { IfOk result (λ answer. question_outcome question instance.now ≡ Ok (output_of answer)) }
-    ensures claims { IfOk result (λ answer. QuestionClaims question (output_of answer).text instance.now) }
+fn answer_on(alloc: Global, question: Question, instance: Instance) -> Result<Answer, Fault>
+    requires { IsValid instance }
+    ensures ok { IfOk result (λ answer. question_outcome question instance ≡ Ok (output_of answer)) }
+    ensures claims { IfOk result (λ answer. QuestionClaims question (output_of answer).text instance) }
     ensures done { IfOk result (λ answer. (output_of answer).status ≡ Status.Done) }
     ensures has_text { IfOk result AnswerHasText }
-    ensures none { IfErr result (HasNoAnswer question instance.now) }
+    ensures none { IfErr result (HasNoAnswer question instance) }
     ensures of_inputs { IfErr result IsOfInputs }
 {
     match question {
-        Question::Solve => solve(alloc, instance),
-        Question::Certify => certify(alloc, instance),
-        Question::Demand => demand(alloc, instance),
+        Question::Solve => solve(alloc, &instance),
+        Question::Certify => certify(alloc, &instance),
+        Question::Demand => demand(alloc, &instance),
+        Question::Simulate => simulate(instance),
     }
 }
 
@@ -73,7 +76,7 @@ fn ask<I: Source, F: Files>(
     ensures spared_files { ReadsNoFile (λ read. read ≡ origin_of from.now) → files.new ≡ files.old }
 {
     let instance = read_from(alloc, from, input, files)?;
-    answer_on(alloc, question, &instance)
+    answer_on(alloc, question, instance)
 }
 
 // The answer to a check of a certificate against an instance, one of them in a file. The certificate is read where the
@@ -171,7 +174,7 @@ pub fn answer<I: Source, F: Files>(
     ensures has_text { IfOk result AnswerHasText }
     ensures end { IfOk result (λ answer. (output_of answer).status ≡ Status.Done → IsInputOf command None → IsAtEnd (I.left input.new)) }
     ensures rejects { IfOk result (λ answer. (output_of answer).status ≡ Status.Rejected → IsCheck (Ok command)) }
-    ensures help { command ≡ Command.Help → IsOk result }
+    ensures help { command ≡ Command.Help → result ≡ Ok Answer.Help }
     ensures built { (fault : Fault) → command_fault command ≡ Some fault → result ≡ Err fault }
     ensures refused { IfErr result (IsRefused
         (IsUnread (counts_of (I.faults input.old) (I.faults input.new) (F.faults files.old) (F.faults files.new))
@@ -208,8 +211,15 @@ pub fn answer<I: Source, F: Files>(
             input,
             files,
         ),
+        Command::Simulate(place) => ask(
+            alloc,
+            Question::Simulate,
+            &Input::named(words, place),
+            input,
+            files,
+        ),
         Command::Check(place, cert) => answer_check(alloc, words, place, cert, input, files),
-        Command::Simulate(_) | Command::Trial(_) => Err(Fault::NotBuilt),
+        Command::Trial(_) => Err(Fault::NotBuilt),
         Command::Help => Ok(Answer::Help),
     }
 }

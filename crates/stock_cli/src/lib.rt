@@ -9,6 +9,10 @@ mod check;
 mod commands;
 mod demand;
 mod inputs;
+#[cfg(test)]
+mod run_tests;
+mod runs;
+mod simulate;
 mod solve;
 mod solvers;
 mod status;
@@ -17,6 +21,7 @@ mod tests;
 mod top;
 mod words;
 
+pub use runs::{RunErr, run_rows};
 pub use status::Status;
 pub use top::stock;
 pub use words::{Command, WordErr, read_words};

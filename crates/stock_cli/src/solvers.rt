@@ -1,15 +1,15 @@
-// The kinds whose solver is built.
+// The kinds that are solved.
 ghost use Rattle.std.specs.Prelude.{◌≡◌, None, Some, IfOk, IfErr, OnOk};
+ghost use Rattle.decision_model.specs.Kind.{kind_of};
 ghost use Rattle.decision_model.specs.Valid.{IsValid};
 ghost use Rattle.value_cert.specs.Meaning.{Certifies, solved_cert};
 ghost use Rattle.value_cert.specs.Texts.{HasText};
 ghost use Rattle.stock_cli.specs.Solvers.{IsBuilt, instance_of};
 
 use average_cost::solve_average;
-use decision_model::{Average, Finite, Instance, LotSize, Serial};
+use decision_model::{Average, Finite, Instance, LotSize, Serial, kind};
 use finite_ss::solve_finite;
 use fraction128::Memory;
-use instance_json::InstanceFault;
 use newsvendor::{Newsvendor, solve_newsvendor};
 use report_text::Fault;
 use serial_echelon::solve_serial;
@@ -17,7 +17,7 @@ use std::alloc::Global;
 use value_cert::Cert;
 use wagner_whitin::solve_lots;
 
-/// An instance of a kind whose solver is built.
+/// An instance of a kind that is solved.
 #[derive(Clone, Copy)]
 pub enum Solver<'a> {
     News(&'a Newsvendor),
@@ -27,11 +27,11 @@ pub enum Solver<'a> {
     Serial(&'a Serial),
 }
 
-/// What solves an instance. Here alone a kind whose solver isn't built is told apart.
+/// What solves an instance. Here alone a kind that isn't solved is told apart.
 pub fn solver_of(instance: &Instance) -> Result<Solver<'_>, Fault>
     ensures ok { IfOk result (λ solver. instance_of solver ≡ instance.now) }
     ensures built { OnOk result (IsBuilt instance.now) }
-    ensures none { IfErr result (λ fault. (fault ≡ Fault.Instance InstanceFault.NotBuilt) × (solved_cert instance.now ≡ None)) }
+    ensures none { IfErr result (λ fault. (fault ≡ Fault.NotThisCommand (kind_of instance.now)) × (solved_cert instance.now ≡ None)) }
 {
     match instance {
         Instance::News(newsvendor) => Ok(Solver::News(newsvendor)),
@@ -39,6 +39,7 @@ pub fn solver_of(instance: &Instance) -> Result<Solver<'_>, Fault>
         Instance::Finite(finite) => Ok(Solver::Finite(finite)),
         Instance::Average(average) => Ok(Solver::Average(average)),
         Instance::Serial(serial) => Ok(Solver::Serial(serial)),
+        Instance::Network(_) => Err(Fault::NotThisCommand(kind(instance))),
     }
 }
 

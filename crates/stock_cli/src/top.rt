@@ -37,7 +37,7 @@ fn perform<I: Source, F: Files>(
     ensures has_text { IfOk result AnswerHasText }
     ensures end { IfOk result (λ answer. (output_of answer).status ≡ Status.Done → TakesInput (command_of words.now) None → IsAtEnd (I.left input.new)) }
     ensures rejects { IfOk result (λ answer. (output_of answer).status ≡ Status.Rejected → IsCheck (command_of words.now)) }
-    ensures help { command_of words.now ≡ Ok Command.Help → IsOk result }
+    ensures help { command_of words.now ≡ Ok Command.Help → result ≡ Ok Answer.Help }
     ensures words { (fault : Fault) → words_fault words.now ≡ Some fault → result ≡ Err fault }
     ensures refused { IfErr result (IsRefused
         (IsUnread (counts_of (I.faults input.old) (I.faults input.new) (F.faults files.old) (F.faults files.new))
@@ -88,9 +88,10 @@ fn refuse<E: Sink>(alloc: Global, err: &mut E, fault: &Fault) -> Status
 /// Runs the command that the words name and writes its text to `out`, and a message to `err` where it is refused. The
 /// words don't hold the program's name. An input is standard input, where no name or `-` is given, or else a file.
 ///
-/// `solve` prints an optimal policy, of a newsvendor or a lot plan so far; `certify` its certificate; `check` checks a
-/// certificate against an instance, whoever wrote it; `demand` prints the laws of demand of a newsvendor, a finite, an
-/// average-cost or a serial instance; `help` prints what the commands are.
+/// `solve` prints an optimal policy; `certify` its certificate; `check` checks a certificate against an instance, whoever
+/// wrote it; `demand` prints the laws of demand of a newsvendor, a finite, an average-cost or a serial instance;
+/// `simulate` runs a network and prints what happens, each period's lines before the next one runs; `help` prints what the
+/// commands are.
 pub fn stock<I: Source, F: Files, O: Sink, E: Sink>(
     alloc: Global,
     words: &[String],
@@ -150,9 +151,9 @@ pub fn stock<I: Source, F: Files, O: Sink, E: Sink>(
     ensures silent { (HasMessage result → ⊥) → Keeps (E.written err.old) (E.written err.new) }
 {
     match perform(alloc, words, input, files) {
-        Ok(answer) => match write_answer(&answer, out) {
+        Ok(answer) => match write_answer(alloc, &answer, out) {
             Ok(()) => status_with(&answer),
-            Err(_) => refuse(alloc, err, &Fault::WriteFault),
+            Err(cut) => refuse(alloc, err, &Fault::from(cut)),
         },
         Err(fault) => refuse(alloc, err, &fault),
     }

@@ -8,6 +8,6 @@ use Rattle.value_cert.specs.declared.cert.Cert.{Cert}
 abbrev pub Certifies : Instance → Cert → Type 0
 Certifies instance c = (standard_of instance).Certifies c
 
--- the certificate that the solver writes, for the kinds whose solver is built
+-- the certificate that the solver writes, for the kinds that are solved
 abbrev pub solved_cert : Instance → Option Cert
 solved_cert instance = (standard_of instance).solved

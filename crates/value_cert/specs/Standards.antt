@@ -1,13 +1,13 @@
 -- What certificates for an instance are held against: the one dispatch over its kind.
 use Rattle.decision_model.specs.declared.instance.Instance.{Instance}
-use Rattle.decision_model.specs.declared.instance.Instance.TheVariants.{News, Lots, Finite, Average, Serial}
+use Rattle.decision_model.specs.declared.instance.Instance.TheVariants.{News, Lots, Finite, Average, Serial, Network}
 use Rattle.value_cert.specs.AverageRules.{average_standard}
 use Rattle.value_cert.specs.FiniteRules.{finite_standard}
 use Rattle.value_cert.specs.LotsRules.{lots_standard}
 use Rattle.value_cert.specs.NewsRules.{news_standard}
 use Rattle.value_cert.specs.Rules.{Rules}
 use Rattle.value_cert.specs.SerialRules.{serial_standard}
-use Rattle.value_cert.specs.Standard.{Standard}
+use Rattle.value_cert.specs.Standard.{Standard, unsolved}
 
 abbrev pub standard_of : Instance → Standard
 standard_of (News newsvendor) = news_standard newsvendor
@@ -15,6 +15,7 @@ standard_of (Lots lots) = lots_standard lots
 standard_of (Finite finite) = finite_standard finite
 standard_of (Average average) = average_standard average
 standard_of (Serial serial) = serial_standard serial
+standard_of (Network net) = unsolved
 
 -- the rules of the instance's kind
 abbrev pub rules_of : Instance → Rules

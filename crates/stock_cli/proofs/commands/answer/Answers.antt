@@ -21,3 +21,9 @@ returns-in-Demand-clause-spared_files g c = λ spares.
     let P : Command → Type 0 = λ asked. ReadsNoFile (ComesTo (g.I.Source.left c.args.input.now) (g.F.Files.held c.args.files.now) c.args.words.now asked) in
     let mine : P (command.Demand c.in-Demand.place) = subst P c.in-Demand.is spares in
     c.ask-in-Demand.ensures.spared_files (record { none = λ name e. mine.none name (e ∙ c.named-in-Demand.ensures) })
+
+pub returns-in-Simulate-clause-spared_files : goal.returns-in-Simulate-clause-spared_files
+returns-in-Simulate-clause-spared_files g c = λ spares.
+    let P : Command → Type 0 = λ asked. ReadsNoFile (ComesTo (g.I.Source.left c.args.input.now) (g.F.Files.held c.args.files.now) c.args.words.now asked) in
+    let mine : P (command.Simulate c.in-Simulate.place) = subst P c.in-Simulate.is spares in
+    c.ask-in-Simulate.ensures.spared_files (record { none = λ name e. mine.none name (e ∙ c.named-in-Simulate.ensures) })

@@ -1,0 +1,116 @@
+-- The nodes of a network: their ranges, and what a rule orders up to.
+use Rattle.std.specs.Prelude.{◌≡◌, ℕ, suc, zero, ◌+◌, ◌*◌, ◌<◌, ◌≤◌, ◌&&◌, ◌||◌, ℤ, pos, ◌+ℤ◌, ◌<ℤ◌, List, [], ◌∷◌, length, codes, Bool, true, false, not, cond, ◌==◌, IsTrue, nat_le, Option, Some, None, All, ⊤, max}
+use Rattle.std.specs.List.{list_all}
+use Rattle.std.specs.Str.{bytes_eq}
+use Rattle.std.proofs.Common.{get_or}
+use Rattle.demand_law.specs.Law.{greatest_of}
+use Rattle.decision_model.specs.declared.network.NodeSpec.{NodeSpec}
+use Rattle.decision_model.specs.declared.network.Link.{Link}
+use Rattle.decision_model.specs.declared.network.Rule.{Rule}
+use Rattle.decision_model.specs.declared.network.Rule.TheVariants.{Base, MinMax, Lot, Echelon, House}
+use Rattle.decision_model.specs.declared.network.Demand.{Demand}
+use Rattle.decision_model.specs.declared.network.Demand.TheVariants.{Nobody, Trace, Drawn}
+use Rattle.decision_model.specs.declared.limits.TheConstants.{MOST_NAME, MOST_INITIAL, MOST_LOT, MOST_HOUSE_INDEX, MOST_HOUSE_CAP, MOST_SOURCES, MOST_NETWORK_LEAD, MOST_TRACE}
+use Rattle.decision_model.specs.Positions.{IsPosition, above_zero}
+use Rattle.decision_model.specs.Rates.{IsRate}
+use Rattle.decision_model.specs.DemandLaws.{IsDemandLaw}
+
+-- ---- names
+abbrev pub is_from_to : ℕ → ℕ → ℕ → Bool
+is_from_to least most c = nat_le least c && nat_le c most
+
+-- a letter, a digit, `_` or `-`
+abbrev pub is_name_byte : ℕ → Bool
+is_name_byte c = is_from_to 97 122 c || is_from_to 65 90 c || is_from_to 48 57 c || (c == 95) || (c == 45)
+
+-- the name of what is no node
+abbrev pub outside : List ℕ
+outside = codes "outside"
+
+abbrev pub is_node_name : List ℕ → Bool
+is_node_name name = nat_le 1 (length name) && nat_le (length name) MOST_NAME && list_all is_name_byte name && not (bytes_eq name outside)
+
+-- ---- rules
+abbrev pub IsReadableRule : Rule → Type 0
+IsReadableRule (Base level) = IsPosition level
+IsReadableRule (MinMax low high) = IsPosition low × IsPosition high × (low <ℤ high)
+IsReadableRule (Lot reorder lot) = IsPosition reorder × (1 ≤ lot) × (lot ≤ MOST_LOT)
+IsReadableRule (Echelon level) = IsPosition level
+IsReadableRule (House index cap) = (index ≤ MOST_HOUSE_INDEX) × (cap ≤ MOST_HOUSE_CAP)
+
+-- no order takes the position above this
+abbrev pub peak_of : Rule → ℕ
+peak_of (Base level) = above_zero level
+peak_of (MinMax low high) = above_zero high
+peak_of (Lot reorder lot) = above_zero (reorder +ℤ pos lot)
+peak_of (Echelon level) = above_zero level
+peak_of (House index cap) = 0
+
+abbrev pub is_echelon : Rule → Bool
+is_echelon (Echelon level) = true
+is_echelon (Base level) = false
+is_echelon (MinMax low high) = false
+is_echelon (Lot reorder lot) = false
+is_echelon (House index cap) = false
+
+-- ---- demand
+abbrev pub greatest : List ℕ → ℕ
+greatest [] = 0
+greatest (d ∷ ds) = max d (greatest ds)
+
+-- the greatest demand of a period
+abbrev pub top_of : Demand → ℕ
+top_of Nobody = 0
+top_of (Trace ds) = greatest ds
+top_of (Drawn law) = greatest_of law
+
+abbrev pub IsReadableDemand : ℕ → Demand → Type 0
+IsReadableDemand periods Nobody = ⊤
+IsReadableDemand periods (Trace ds) = (length ds ≡ periods) × All (λ d. d ≤ MOST_TRACE) ds
+IsReadableDemand periods (Drawn law) = IsDemandLaw law
+
+-- ---- nodes
+pub record IsReadableLink (link : Link) : Type 0 where
+  pub lead : link.lead ≤ MOST_NETWORK_LEAD
+  pub order_lead : link.order_lead ≤ MOST_NETWORK_LEAD
+
+pub record IsReadableNode (periods : ℕ) (node : NodeSpec) : Type 0 where
+  pub name : IsTrue (is_node_name node.name)
+  pub initial : node.initial ≤ MOST_INITIAL
+  pub holding : IsRate node.holding
+  pub stockout : IsRate node.stockout
+  pub rule : IsReadableRule node.rule
+  pub some_sources : 1 ≤ length node.sources
+  pub few_sources : length node.sources ≤ MOST_SOURCES
+  pub sources : All IsReadableLink node.sources
+  pub demand : IsReadableDemand periods node.demand
+
+abbrev pub no_node : NodeSpec
+no_node = record { name = []; initial = 0; holding = 0; stockout = 0; rule = Base (pos 0); sources = []; demand = Nobody }
+
+abbrev pub no_link : Link
+no_link = record { from = None; lead = 0; order_lead = 0 }
+
+-- the node at a place, from 0
+abbrev pub node_at : List NodeSpec → ℕ → NodeSpec
+node_at nodes i = get_or nodes i no_node
+
+-- whether a source is node i
+abbrev pub is_from : ℕ → Option ℕ → Bool
+is_from i None = false
+is_from i (Some k) = k == i
+
+-- the least place below n at which a test fails
+abbrev pub or_place : Option ℕ → Bool → ℕ → Option ℕ
+or_place (Some k) passes n = Some k
+or_place None true n = None
+or_place None false n = Some n
+
+abbrev pub first_failing : (ℕ → Bool) → ℕ → Option ℕ
+first_failing passes zero = None
+first_failing passes (suc n) = or_place (first_failing passes n) (passes n) n
+
+-- whether all places below n pass a test
+abbrev pub each_below : (ℕ → Bool) → ℕ → Bool
+each_below passes zero = true
+each_below passes (suc n) = each_below passes n && passes n

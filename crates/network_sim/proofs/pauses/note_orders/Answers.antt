@@ -1,0 +1,13 @@
+use Rattle.std.proofs.Common.{arith, ◌∙◌, false}
+use Rattle.std.proofs.lemmas.List.{length-set}
+use Rattle.decision_model.specs.declared.network.Pause.TheVariants.{Orders}
+use Rattle.decision_model.specs.Pauses.{is_paused}
+use Rattle.network_sim.proofs.Lists.{written}
+use Rattle.network_sim.proofs.pauses.note_orders.Goals as goal
+
+pub loop-node-preserved : goal.loop-node-preserved
+loop-node-preserved c = record {
+  all = length-set c.loop-node.paused c.loop-node.node c.orders_paused.result ∙ c.loop-node.invariant.all;
+  each = written c.loop-node.paused c.loop-node.node c.orders_paused.result false (λ k. is_paused c.args.calendar.now Orders k c.args.t)
+      (let a = c.loop-node.invariant.all in let b = c.loop-node-test.true in omega arith) c.loop-node.invariant.each c.orders_paused.ensures;
+}

@@ -1,0 +1,11 @@
+use Rattle.std.proofs.Common.{◌≡◌, ℕ, ◌<◌, length}
+use Rattle.decision_model.specs.declared.network.Pause.TheVariants.{Orders}
+use Rattle.decision_model.specs.Pauses.{is_paused}
+use Rattle.network_sim.specs.Machine.{flag_at}
+use Rattle.network_sim.proofs.pauses.note_orders.Given as goal
+
+abbrev pub invariant-loop-node : goal.invariant-loop-node
+invariant-loop-node l = record {
+  all : length l.paused ≡ length l.initial.paused;
+  each : (k : ℕ) → k < l.node → flag_at l.paused k ≡ is_paused l.calendar Orders k l.t;
+}

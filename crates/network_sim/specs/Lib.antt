@@ -1,0 +1,11 @@
+pub mod Machine
+pub mod Supply
+pub mod Windows
+pub mod Claims
+pub mod Steady
+pub mod Runs
+pub mod Balance
+pub mod Simulated
+pub mod Wiring
+pub mod ValidNetworks
+pub mod TableRun

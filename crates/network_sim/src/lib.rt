@@ -1,0 +1,22 @@
+//! The simulator of a network: all nodes, period by period.
+#![tactic(auto)]
+
+mod echelons;
+mod laws;
+mod links;
+mod orders;
+mod pauses;
+mod period;
+mod rows;
+mod sim;
+mod state;
+mod station;
+mod stations;
+mod supply;
+#[cfg(test)]
+mod tests;
+mod wiring;
+
+pub use laws::totals_balance;
+pub use rows::{NodeLine, Row};
+pub use sim::Sim;

@@ -1,0 +1,97 @@
+// What a simulator holds, and how a period changes it.
+ghost use Rattle.std.specs.Prelude.{◌≡◌, ℕ, suc, ◌-◌, ◌<◌, ◌≤◌, IfOk, length};
+ghost use Rattle.decision_model.specs.Network.{IsValidNetwork};
+ghost use Rattle.node_state.specs.Totals.{Setting};
+ghost use Rattle.node_state.specs.Table.{row as row_of};
+ghost use Rattle.network_sim.specs.Simulated.{IsStateAfter, CanAdvance, AreDemands};
+
+use crate::pauses::Paused;
+use crate::period::run_period;
+use crate::rows::{Row, add_demands, note_ordered, sum_costs, write_lines};
+use crate::station::Station;
+use crate::stations::{find_stations, make_nodes};
+use crate::wiring::wire;
+use decision_model::Network;
+use disruption::Calendar;
+use fraction128::Memory;
+use node_state::Node;
+use std::alloc::Global;
+
+/// What a simulator holds.
+#[derive(Drop)]
+pub struct State {
+    // The nodes, and what is known of each from the start.
+    pub nodes: Vec<Node>,
+    pub stations: Vec<Station>,
+    pub calendar: Calendar,
+    // All that the customers of each node have demanded so far.
+    pub demanded: Vec<u64>,
+    // Room for what each node had ordered before a period, and for what pauses in it.
+    pub ordered: Vec<u64>,
+    pub paused: Paused,
+    // The network's periods, those that were run, and what these cost.
+    pub periods: u32,
+    pub played: u32,
+    pub total: u128,
+}
+
+impl State {
+    /// The state before the first period.
+    pub fn new(alloc: Global, network: &Network) -> Result<State, Memory>
+        requires { IsValidNetwork network.now }
+        ensures { IfOk result (λ state. (demand : ℕ → ℕ → ℕ) → IsStateAfter (record { network = network.now; demand = demand }) 0 state) }
+    {
+        let count = network.nodes.as_slice().len();
+        let Ok(wiring) = wire(alloc, network) else {
+            return Err(Memory);
+        };
+        let Ok(stations) = find_stations(alloc, network, wiring) else {
+            return Err(Memory);
+        };
+        let nodes = make_nodes(alloc, network, &stations)?;
+        let Ok(calendar) = Calendar::new(alloc, network.pauses.as_slice()) else {
+            return Err(Memory);
+        };
+        let Ok(paused) = Paused::new(alloc, count) else {
+            return Err(Memory);
+        };
+        let Ok(demanded) = vec![in alloc; 0u64; count] else {
+            return Err(Memory);
+        };
+        let Ok(ordered) = vec![in alloc; 0u64; count] else {
+            return Err(Memory);
+        };
+        Ok(State {
+            nodes,
+            stations,
+            calendar,
+            demanded,
+            ordered,
+            paused,
+            periods: network.periods,
+            played: 0,
+            total: 0,
+        })
+    }
+
+    /// Runs the next period with these demands, one a node, and writes its row.
+    pub fn advance(&mut self, demands: &[u32], row: &mut Row)
+        requires { CanAdvance self.old demands.now row.old.lines.items }
+        ensures stands { (s : Setting) (n : ℕ) → IsStateAfter s n self.old → suc n ≤ s.network.periods → AreDemands s (suc n) demands.now → IsStateAfter s (suc n) self.new }
+        ensures row { (s : Setting) (n : ℕ) → IsStateAfter s n self.old → suc n ≤ s.network.periods → AreDemands s (suc n) demands.now → row.new.lines.items ≡ row_of s n }
+    {
+        self.paused.note(&self.calendar, self.played + 1);
+        note_ordered(&self.nodes, &mut self.ordered);
+        add_demands(&mut self.demanded, demands);
+        run_period(
+            &mut self.nodes,
+            &self.stations,
+            &self.demanded,
+            demands,
+            &self.paused,
+        );
+        write_lines(&self.nodes, &self.stations, &self.ordered, &mut row.lines);
+        self.total += sum_costs(&row.lines);
+        self.played += 1;
+    }
+}

@@ -1,0 +1,17 @@
+//! One node of a network: what it holds and what is on its way to it, and the rules by which it orders.
+#![tactic(auto)]
+
+mod laws;
+mod leg;
+mod legs;
+mod node;
+mod ring;
+mod rules;
+#[cfg(test)]
+mod tests;
+
+pub use laws::{nodes_balance, orders_stay_within_peaks};
+pub use node::Node;
+pub use rules::{
+    BaseStock, EchelonBase, Local, MinMax, NodeRule, OrderRule, ReorderLot, View, Whole,
+};
