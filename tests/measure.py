@@ -120,6 +120,27 @@ def stage_demands(demands):
     return stages(4, 400, demands)
 
 
+def shops(periods):
+    """One shop with a base-stock rule."""
+    return {"kind": "network", "periods": periods, "nodes": [
+        {"name": "shop", "initial": 50, "holding": 1, "stockout": 10, "rule": {"base": 60},
+         "sources": [{"from": "outside", "lead": 2}], "demand": {"trace": [period * 37 % 20 for period in range(periods)]}}]}
+
+
+def tree(nodes, periods=1000):
+    """Shops that order from depots, eight from each, and the depots from one plant."""
+    shops = max(1, (nodes - 1) * 8 // 9)
+    depots = nodes - 1 - shops
+    source = lambda name, lead: [{"from": name, "lead": lead}]
+    listed = [{"name": "shop-%d" % shop, "initial": 30, "holding": 2, "stockout": 10, "rule": {"min": 10, "max": 40},
+               "sources": source("depot-%d" % (shop % depots), 1),
+               "demand": {"trace": [(period * 37 + shop) % 11 for period in range(periods)]}} for shop in range(shops)]
+    listed += [{"name": "depot-%d" % depot, "initial": 200, "holding": 1, "rule": {"echelon": 600},
+                "sources": source("plant", 2)} for depot in range(depots)]
+    listed.append({"name": "plant", "initial": 500, "holding": 1, "rule": {"reorder": 200, "lot": 300}, "sources": source("outside", 3)})
+    return {"kind": "network", "periods": periods, "nodes": listed}
+
+
 # The rows: name, command, instance of a size, and the three sizes.
 ROWS = [
     ("`solve`, newsvendor of 2,500, 5,000, 10,000 points", "solve", newsvendor, (2500, 5000, 10000)),
@@ -151,6 +172,8 @@ ROWS = [
     ("`check`, serial of 4 echelons on 100, 200, 400 positions", "check", four_stages, (100, 200, 400)),
     ("`check`, serial of 2, 4, 8 echelons on 200 positions", "check", stages, (2, 4, 8)),
     ("`solve`, serial of 5, 10, 20 demands on 400 positions", "solve", stage_demands, (5, 10, 20)),
+    ("`simulate`, one shop for 100, 1,000, 10,000 periods", "simulate", shops, (100, 1000, 10000)),
+    ("`simulate`, trees of 10, 30, 64 nodes for 1,000 periods", "simulate", tree, (10, 30, 64)),
     ("reading 28, 56, 112 laws of 10,001 demands", "solve", wide_laws, (28, 56, 112)),
     ("`demand`, lead time 8, greatest demand 100, 200, 400", "demand", long_lead, (100, 200, 400)),
     ("`demand`, one law for 12 months, lead time 0, 2, 4", "demand", months, (0, 2, 4)),
