@@ -1,8 +1,8 @@
 -- What holds of the average kind as a decision problem: some order is allowed, and no period costs less than 0 or as much
 -- as the setup cost and the cost bound.
-use Rattle.std.proofs.Common.{◌≡◌, ℕ, zero, suc, ◌+◌, ◌*◌, ◌<◌, ◌≤◌, ℤ, pos, ◌+ℤ◌, ◌-ℤ◌, ◌*ℤ◌, ◌≤ℤ◌, ◌<ℤ◌, IsTrue, Bool, true, false, if◌then◌else◌, List, [], ◌∷◌, length, map, sum, take, refl, sym, ◌∙◌, ap, arith, mul-le-mul_left, ◌&&◌}
+use Rattle.std.proofs.Common.{◌≡◌, ℕ, suc, ◌+◌, ◌*◌, ◌<◌, ◌≤◌, ℤ, pos, ◌-ℤ◌, ◌≤ℤ◌, ◌<ℤ◌, IsTrue, Bool, true, false, if◌then◌else◌, List, [], ◌∷◌, length, map, sum, take, ap, arith, mul-le-mul_left, ◌&&◌}
 use Rattle.std.specs.Prelude.{int_le, int_lt}
-use Rattle.std.specs.Int.{int_min, int_max}
+use Rattle.std.specs.Int.{int_min}
 use Rattle.std.specs.Int.Signed.{≤ℤ_refl}
 use Rattle.std.proofs.lemmas.Bool.{and_parts, and_from}
 use Rattle.std.proofs.lemmas.Int.{ints, clamps}
@@ -14,7 +14,7 @@ use Rattle.decision_model.specs.declared.average.Average.{Average}
 use Rattle.decision_model.specs.Average.{IsReadableAverage, average_most_lacking, average_cost_bound}
 use Rattle.decision_model.specs.AverageProblem.{order_charge, stock_charge, lowest_state, average_problem}
 use Rattle.decision_model.specs.Bounds.{IsOnGrid}
-use Rattle.decision_model.specs.Listed.{position, is_one, listed, AreWithin}
+use Rattle.decision_model.specs.Listed.{position, listed, AreWithin}
 use Rattle.decision_model.specs.ListedLaws.{one_within, one_steps, grid_position, allowed_position, listed_on_grid}
 use Rattle.decision_model.specs.Policies.{Problem}
 use Rattle.decision_model.specs.Positions.{above_zero}

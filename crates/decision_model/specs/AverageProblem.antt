@@ -1,6 +1,6 @@
 -- The average kind as a decision problem of some number of periods, from a start: its state is the position before an
 -- order, its choice the one after it.
-use Rattle.std.specs.Prelude.{ℕ, suc, ◌+◌, ℤ, pos, ◌-ℤ◌, ◌≤ℤ◌, int_le, int_lt, ◌&&◌, if◌then◌else◌, List, sum, take}
+use Rattle.std.specs.Prelude.{ℕ, suc, ◌+◌, ℤ, pos, ◌-ℤ◌, int_le, int_lt, ◌&&◌, if◌then◌else◌, sum, take}
 use Rattle.std.specs.Int.{int_min}
 use Rattle.demand_law.specs.Law.{greatest_of}
 use Rattle.decision_model.specs.declared.average.Average.{Average}

@@ -1,10 +1,8 @@
 -- The network kind: ranges, and the rules over several nodes and pauses.
-use Rattle.std.specs.Prelude.{◌≡◌, ℕ, ◌≤◌, ◌&&◌, List, length, Bool, true, false, IsTrue, None, All, ⊤}
+use Rattle.std.specs.Prelude.{◌≡◌, ◌≤◌, ◌||◌, length, Bool, true, false, not, None, is_some, All, ⊤}
 use Rattle.std.specs.List.{list_all}
 use Rattle.decision_model.specs.declared.network.Network.{Network}
 use Rattle.decision_model.specs.declared.network.NodeSpec.{NodeSpec}
-use Rattle.decision_model.specs.declared.network.Rule.{Rule}
-use Rattle.decision_model.specs.declared.network.Rule.TheVariants.{Base, MinMax, Lot, Echelon, House}
 use Rattle.decision_model.specs.declared.network.Demand.{Demand}
 use Rattle.decision_model.specs.declared.network.Demand.TheVariants.{Nobody, Trace, Drawn}
 use Rattle.decision_model.specs.declared.limits.TheConstants.{MOST_NETWORK_PERIODS, MOST_NODES, MOST_PAUSES}
@@ -25,29 +23,20 @@ pub record IsReadableNetwork (net : Network) : Type 0 where
   pub few_pauses : length net.pauses ≤ MOST_PAUSES
   pub pauses : All (IsReadableSpan net.periods (length net.nodes)) net.pauses
 
--- ---- what is simulated so far: rules of the caller's own and drawn demand aren't
-abbrev pub is_simulated_rule : Rule → Bool
-is_simulated_rule (House index cap) = false
-is_simulated_rule (Base level) = true
-is_simulated_rule (MinMax low high) = true
-is_simulated_rule (Lot reorder lot) = true
-is_simulated_rule (Echelon level) = true
+-- ---- draws of demand
+abbrev pub is_drawn : Demand → Bool
+is_drawn Nobody = false
+is_drawn (Trace ds) = false
+is_drawn (Drawn law) = true
 
-abbrev pub is_simulated_demand : Demand → Bool
-is_simulated_demand Nobody = true
-is_simulated_demand (Trace ds) = true
-is_simulated_demand (Drawn law) = false
-
-abbrev pub is_simulated_node : NodeSpec → Bool
-is_simulated_node node = is_simulated_rule node.rule && is_simulated_demand node.demand
-
-abbrev pub is_simulated : Network → Bool
-is_simulated net = list_all is_simulated_node net.nodes
+-- where no demand is drawn, or a seed is there
+abbrev pub is_seeded : Network → Bool
+is_seeded net = list_all (λ (n : NodeSpec). not (is_drawn n.demand)) net.nodes || is_some net.seed
 
 -- all rules
 pub record IsValidNetwork (net : Network) : Type 0 where
   pub readable : IsReadableNetwork net
-  pub simulated : is_simulated net ≡ true
+  pub seeded : is_seeded net ≡ true
   pub shaped : misshapen_node net ≡ None
   pub apart : overlapping_span net.pauses ≡ None
   pub light : overloaded_node net ≡ None

@@ -1,5 +1,5 @@
 -- The nodes of a network: their ranges, and what a rule orders up to.
-use Rattle.std.specs.Prelude.{◌≡◌, ℕ, suc, zero, ◌+◌, ◌*◌, ◌<◌, ◌≤◌, ◌&&◌, ◌||◌, ℤ, pos, ◌+ℤ◌, ◌<ℤ◌, List, [], ◌∷◌, length, codes, Bool, true, false, not, cond, ◌==◌, IsTrue, nat_le, Option, Some, None, All, ⊤, max}
+use Rattle.std.specs.Prelude.{◌≡◌, ℕ, suc, zero, ◌≤◌, ◌&&◌, ◌||◌, pos, ◌+ℤ◌, ◌<ℤ◌, List, [], ◌∷◌, length, codes, Bool, true, false, not, ◌==◌, IsTrue, nat_le, Option, Some, None, All, ⊤, max}
 use Rattle.std.specs.List.{list_all}
 use Rattle.std.specs.Str.{bytes_eq}
 use Rattle.std.proofs.Common.{get_or}

@@ -2,7 +2,6 @@
 use Rattle.std.specs.Prelude.{ℕ, suc, ◌≤◌, ◌<◌, ◌&&◌, ◌||◌, List, length, take, Bool, true, false, not, ◌==◌, nat_le, nat_lt, Option, option_map}
 use Rattle.std.specs.List.{list_all, list_any}
 use Rattle.std.proofs.Common.{get_or}
-use Rattle.decision_model.specs.declared.network.Network.{Network}
 use Rattle.decision_model.specs.declared.network.Span.{Span}
 use Rattle.decision_model.specs.declared.network.Pause.{Pause}
 use Rattle.decision_model.specs.declared.network.Pause.TheVariants.{Orders, Shipments, Receipts}

@@ -1,5 +1,5 @@
 -- What the periods of a serial system cost: at least 0, and less than the cost bound.
-use Rattle.std.proofs.Common.{◌≡◌, ℕ, suc, ◌+◌, ◌*◌, ◌<◌, ◌≤◌, ℤ, pos, negsuc, ◌+ℤ◌, ◌-ℤ◌, ◌*ℤ◌, ◌≤ℤ◌, ◌<ℤ◌, IsTrue, ◌&&◌, List, [], ◌∷◌, sum, slice_index_or, refl, ap, arith, mul-le-mul_left}
+use Rattle.std.proofs.Common.{◌≡◌, ℕ, suc, ◌+◌, ◌*◌, ◌≤◌, ℤ, pos, negsuc, ◌+ℤ◌, ◌-ℤ◌, ◌*ℤ◌, ◌≤ℤ◌, ◌<ℤ◌, IsTrue, List, [], ◌∷◌, sum, slice_index_or, refl, ap, arith, mul-le-mul_left}
 use Rattle.std.specs.Prelude.{int_le}
 use Rattle.std.specs.Int.Signed.{≤ℤ_refl}
 use Rattle.std.proofs.lemmas.Bool.{and_parts, and_from}

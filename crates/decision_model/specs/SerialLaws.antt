@@ -1,5 +1,5 @@
 -- The laws of a serial system as a problem over lists of echelon stocks.
-use Rattle.std.proofs.Common.{◌≡◌, ℕ, suc, ◌+◌, ◌<◌, ◌≤◌, ℤ, pos, ◌-ℤ◌, ◌≤ℤ◌, ◌<ℤ◌, IsTrue, ◌&&◌, ◌==◌, List, [], ◌∷◌, length, slice_index_or, refl, sym, ◌∙◌, arith}
+use Rattle.std.proofs.Common.{ℕ, ◌≤◌, ℤ, pos, ◌≤ℤ◌, ◌<ℤ◌, IsTrue, ◌==◌, List, [], ◌∷◌, length, slice_index_or, sym, ◌∙◌, arith}
 use Rattle.std.proofs.lemmas.Bool.{and_parts, eqb-true}
 use Rattle.demand_law.specs.Sequences.{IsSequence, laws_from, greatest_in}
 use Rattle.decision_model.specs.declared.serial.Serial.{Serial}

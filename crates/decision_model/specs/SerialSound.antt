@@ -1,6 +1,5 @@
 -- What the theorems ask of a serial system, and that its grids go down by the greatest demand.
-use Rattle.std.proofs.Common.{◌≡◌, ℕ, zero, suc, ◌+◌, ◌-◌, ◌*◌, ◌<◌, ◌≤◌, ℤ, pos, ◌+ℤ◌, ◌-ℤ◌, ◌≤ℤ◌, IsTrue, ◌&&◌, ◌==◌, List, [], ◌∷◌, length, sum, slice_index_or, refl, sym, ◌∙◌, ap, arith, subst, eq-eqb}
-use Rattle.std.specs.Prelude.{int_le}
+use Rattle.std.proofs.Common.{◌≡◌, ℕ, zero, suc, ◌+◌, ◌-◌, ◌*◌, ◌<◌, ◌≤◌, ℤ, pos, ◌+ℤ◌, ◌-ℤ◌, ◌≤ℤ◌, IsTrue, ◌==◌, List, [], ◌∷◌, length, sum, slice_index_or, sym, ◌∙◌, arith, subst, eq-eqb}
 use Rattle.std.specs.Int.{int_min}
 use Rattle.std.specs.List.{AllAdjacentBelow}
 use Rattle.std.proofs.lemmas.Bool.{and_parts, and_from, eqb-true}
@@ -14,10 +13,10 @@ use Rattle.decision_model.specs.declared.serial.Serial.{Serial}
 use Rattle.decision_model.specs.Bounds.{IsOnGrid}
 use Rattle.decision_model.specs.DemandLaws.{common_total}
 use Rattle.decision_model.specs.LawFacts.{laws_some}
-use Rattle.decision_model.specs.Positions.{low_after, above_zero}
+use Rattle.decision_model.specs.Positions.{low_after}
 use Rattle.decision_model.specs.PositionTests.{above_zero_is}
 use Rattle.decision_model.specs.Serial.{IsReadableSerial, serial_low, serial_positions}
-use Rattle.decision_model.specs.SerialProblem.{law_of_period, are_ordered, are_allowed, after_demand, serial_problem}
+use Rattle.decision_model.specs.SerialProblem.{law_of_period, are_ordered, after_demand, serial_problem}
 use Rattle.decision_model.specs.SerialStates.{ordered_lower, ordered_from, allowed_length, allowed_ordered, ordered_after}
 
 -- the laws of all periods have one sum of weights and no demand above the greatest, and the start has a stock for each

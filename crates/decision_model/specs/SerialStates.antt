@@ -1,5 +1,5 @@
 -- Lists of echelon stocks that never fall, and the orders that they allow.
-use Rattle.std.proofs.Common.{◌≡◌, ℕ, zero, suc, ◌+◌, ◌-◌, ◌<◌, ◌≤◌, ℤ, pos, ◌-ℤ◌, ◌≤ℤ◌, IsTrue, ◌&&◌, List, [], ◌∷◌, length, slice_index_or, All, refl, ap, arith, subst}
+use Rattle.std.proofs.Common.{◌≡◌, ℕ, suc, ◌+◌, ◌-◌, ℤ, pos, ◌-ℤ◌, ◌≤ℤ◌, IsTrue, ◌&&◌, List, [], ◌∷◌, length, slice_index_or, All, refl, arith, subst}
 use Rattle.std.specs.Prelude.{int_le}
 use Rattle.std.specs.Int.Signed.{≤ℤ_refl}
 use Rattle.std.specs.List.{AllAdjacentBelow}

@@ -1,5 +1,5 @@
 -- The shape of a network: names that differ, sources that are listed later, and one path to each node of an echelon.
-use Rattle.std.specs.Prelude.{ℕ, zero, suc, ◌+◌, ◌&&◌, ◌||◌, List, [], ◌∷◌, length, take, Bool, true, false, not, cond, ◌==◌, nat_le, nat_lt, Option, Some, None, option_map}
+use Rattle.std.specs.Prelude.{ℕ, zero, suc, ◌+◌, ◌&&◌, ◌||◌, List, [], ◌∷◌, length, take, Bool, true, not, cond, ◌==◌, nat_le, nat_lt, Option, Some, None, option_map}
 use Rattle.std.specs.List.{list_all, list_any}
 use Rattle.std.specs.Str.{bytes_eq}
 use Rattle.decision_model.specs.declared.network.Network.{Network}

@@ -1,7 +1,9 @@
 // Lists inside instances, which contracts see as lists.
-ghost use Rattle.std.specs.Prelude.{◌≡◌};
+ghost use Rattle.std.specs.Prelude.{◌≡◌, IfOk};
 
 use demand_law::Law;
+use fraction128::Memory;
+use std::alloc::Global;
 use std::marker::Model;
 
 /// A list of one entry a period or an echelon.
@@ -38,6 +40,18 @@ impl<T> Items<T> {
         ensures { result.now ≡ self.now }
     {
         &self.items
+    }
+}
+
+impl Items<u32> {
+    /// The same list once more.
+    pub(crate) fn copy(&self, alloc: Global) -> Result<Items<u32>, Memory>
+        ensures { IfOk result (λ items. items ≡ self.now) }
+    {
+        match self.items.to_vec(alloc) {
+            Ok(items) => Ok(Items::new(items)),
+            Err(_) => Err(Memory),
+        }
     }
 }
 

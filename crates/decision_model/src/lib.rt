@@ -45,7 +45,7 @@ pub use items::{Amounts, Items, Laws, Positions};
 pub use kinds::Kind;
 pub use load::overloaded_node;
 pub use lots::{LotSize, speculative_period};
-pub use network::{Demand, Link, Network, NodeSpec, Pause, Rule, Span, is_simulated};
+pub use network::{Demand, Link, Network, NodeSpec, Pause, Rule, Span, is_seeded};
 pub use pauses::overlapping_span;
 pub use problem::Problem;
 pub use serial::Serial;

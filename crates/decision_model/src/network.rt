@@ -1,15 +1,16 @@
 // The network kind: nodes that order from each other and from outside, period by period.
-ghost use Rattle.std.specs.Prelude.{◌≡◌};
+ghost use Rattle.std.specs.Prelude.{◌≡◌, IfOk, not};
 ghost use Rattle.std.specs.List.{list_all};
 ghost use Rattle.decision_model.specs.Nodes.{IsReadableRule, is_echelon, peak_of, greatest, top_of};
-ghost use Rattle.decision_model.specs.Network.{is_simulated, is_simulated_node};
+ghost use Rattle.decision_model.specs.Network.{is_drawn, is_seeded};
 
 use crate::grid::above_zero;
 use crate::items::Items;
 use crate::kinds::Kind;
 use crate::rules::KindRules;
 use demand_law::Law;
-use fraction128::Text;
+use fraction128::{Memory, Text};
+use std::alloc::Global;
 
 /// A network that is simulated.
 #[derive(Drop)]
@@ -130,6 +131,24 @@ impl Demand {
             Demand::Drawn(law) => law.greatest(),
         }
     }
+
+    /// Whether it is drawn from a law.
+    pub fn is_drawn(&self) -> bool
+        ensures { result ≡ is_drawn self.now }
+    {
+        matches!(self, Demand::Drawn(_))
+    }
+
+    /// The same demand once more.
+    pub fn copy(&self, alloc: Global) -> Result<Demand, Memory>
+        ensures { IfOk result (λ demand. demand ≡ self.now) }
+    {
+        match self {
+            Demand::Nobody => Ok(Demand::Nobody),
+            Demand::Trace(units) => Ok(Demand::Trace(units.copy(alloc)?)),
+            Demand::Drawn(law) => Ok(Demand::Drawn(law.copy(alloc)?)),
+        }
+    }
 }
 
 // The greatest of some demands, 0 where there are none.
@@ -143,22 +162,16 @@ fn greatest(demands: &[u32]) -> u32
     greatest
 }
 
-/// Whether each node is of those that are simulated: its rule isn't one of the caller's own, and no demand is drawn.
-pub fn is_simulated(network: &Network) -> bool
-    ensures { result ≡ is_simulated network.now }
+/// Whether no demand is drawn, or there is a seed to draw it by.
+pub fn is_seeded(network: &Network) -> bool
+    ensures { result ≡ is_seeded network.now }
 {
     for node in network.nodes.as_slice() {
-        if !is_simulated_node(node) {
-            return false;
+        if node.demand.is_drawn() {
+            return network.seed.is_some();
         }
     }
     true
-}
-
-fn is_simulated_node(node: &NodeSpec) -> bool
-    ensures { result ≡ is_simulated_node node.now }
-{
-    !matches!(node.rule, Rule::House { .. }) && !matches!(node.demand, Demand::Drawn(_))
 }
 
 impl KindRules for Network {

@@ -5,7 +5,7 @@ ghost use Rattle.decision_model.specs.Network.{IsReadableNetwork};
 
 use crate::tests::law;
 use crate::{
-    Demand, Items, Link, Network, NodeSpec, Pause, Rule, Span, is_simulated, misshapen_node,
+    Demand, Items, Link, Network, NodeSpec, Pause, Rule, Span, is_seeded, misshapen_node,
     overlapping_span, overloaded_node,
 };
 use fraction128::Text;
@@ -293,7 +293,36 @@ fn loads(rt: HostRuntime) -> Result<(), Fail> {
             return Err(Fail::from("the network has no shape"));
         }
         assert_eq!(rt; overloaded_node(&network), overloaded);
-        assert!(rt; !is_simulated(&network));
+    }
+    Ok(())
+}
+
+// A demand that is drawn asks for a seed, and no other demand does.
+#[test]
+fn seeds(rt: HostRuntime) -> Result<(), Fail> {
+    for (sells, seed, seeded) in [
+        (false, None, true),
+        (false, Some(7), true),
+        (true, None, false),
+        (true, Some(0), true),
+    ] {
+        let mut last = plain(1, BASE, OUTSIDE);
+        last.sells = sells;
+        let mut network = network(rt.alloc(), &[plain(0, BASE, OUTSIDE), last])?;
+        network.seed = seed;
+        assert_eq!(rt; is_seeded(&network), seeded);
+    }
+    Ok(())
+}
+
+#[test]
+fn copies(rt: HostRuntime) -> Result<(), Fail> {
+    let trace = Demand::Trace(Items::new([2, 9, 4].to_vec(rt.alloc())?));
+    let drawn = Demand::Drawn(law(rt.alloc(), &[(0, 1), (5, 1)])?);
+    for (demand, top) in [(&Demand::Nobody, 0), (&trace, 9), (&drawn, 5)] {
+        let copied = demand.copy(rt.alloc())?;
+        assert_eq!(rt; copied.top(), top);
+        assert_eq!(rt; copied.is_drawn(), demand.is_drawn());
     }
     Ok(())
 }

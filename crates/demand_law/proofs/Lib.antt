@@ -6,3 +6,4 @@ pub mod Leads
 pub mod BinomialWeights
 pub mod FewPoints
 pub mod RescaledWeights
+pub mod RunningSums

@@ -1,5 +1,6 @@
 -- Demand laws. A law is the list of its weights, from demand 0 up.
-use Rattle.std.specs.Prelude.{ℕ, suc, ◌+◌, ◌-◌, ◌^◌, ◌<◌, ◌≤◌, ℤ, pos, ◌+ℤ◌, ◌*ℤ◌, List, [], ◌∷◌, length, slice_index, sum, take}
+use Rattle.std.specs.Prelude.{ℕ, suc, ◌+◌, ◌-◌, ◌^◌, ◌<◌, ◌≤◌, ℤ, pos, ◌+ℤ◌, ◌*ℤ◌, List, [], ◌∷◌, length, slice_index, sum, take, map}
+use Rattle.std.specs.List.{range_with_len}
 
 -- the greatest demand has a weight above 0, and the weights add up to at most 2^120
 pub record IsLaw (ws : List ℕ) : Type 0 where
@@ -15,6 +16,10 @@ greatest_of ws = length ws - 1
 -- the sum of the weights up to d
 abbrev pub upto_of : List ℕ → ℕ → ℕ
 upto_of ws d = sum (take (d + 1) ws)
+
+-- the sums of the weights up to each demand
+unfoldable pub running_sums : List ℕ → List ℕ
+running_sums ws = map (upto_of ws) (range_with_len 0 (length ws))
 
 -- the sum over the demands d of weight(d) times f(d)
 abbrev pub weighted : List ℕ → (ℕ → ℤ) → ℤ

@@ -10,3 +10,4 @@ pub mod ListedSums
 pub mod ServedLaws
 pub mod Named
 pub mod CountedSums
+pub mod Picked

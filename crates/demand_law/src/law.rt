@@ -1,6 +1,9 @@
 // A law of demand, and what can be read of it.
-ghost use Rattle.std.specs.Prelude.{◌≡◌, ◌+◌, ◌^◌, ◌<◌, sum, length, slice_index};
+ghost use Rattle.std.specs.Prelude.{◌≡◌, ◌^◌, ◌<◌, sum, length, slice_index, IfOk};
+ghost use Rattle.demand_law.specs.Law.{running_sums};
 
+use fraction128::Memory;
+use std::alloc::{AllocError, Global};
 use std::marker::Model;
 
 /// The greatest demand that a law made of an instance may have.
@@ -40,36 +43,61 @@ pub enum LawErr {
 #[derive(Drop)]
 pub struct Law {
     weights: Vec<u128>,
+    // The sums of the weights up to each demand.
+    sums: Vec<u128>,
 }
 
 impl Model for Law {
-    ghost use Rattle.std.specs.Prelude.{List, ℕ};
+    ghost use Rattle.std.specs.Prelude.{List, ℕ, ◌≡◌};
 
     ghost Value = { List ℕ };
 
-    ghost use Rattle.demand_law.specs.Law.{IsLaw};
+    ghost use Rattle.demand_law.specs.Law.{IsLaw, running_sums};
 
     ghost view = { λ l. l.weights.items };
 
-    ghost invariant = { λ l. IsLaw l.weights.items };
+    ghost invariant = { λ l. IsLaw l.weights.items × (l.sums.items ≡ running_sums l.weights.items) };
 }
 
-fn sum_of(weights: &[u128]) -> u128
+// The sums of the weights up to each place.
+fn running_sums(alloc: Global, weights: &[u128]) -> Result<Vec<u128>, AllocError>
     requires { sum weights.now < 2 ^ 128 }
-    ensures { result ≡ sum weights.now }
+    ensures { IfOk result (λ sums. sums.items ≡ running_sums weights.now) }
 {
-    weights.iter().sum()
+    let mut sums = Vec::with_capacity(alloc, weights.len())?;
+    let mut sum = 0;
+    for weight in weights {
+        sum += *weight;
+        sums.push(sum)?;
+    }
+    Ok(sums)
 }
 
 impl Law {
+    ghost use Rattle.std.specs.Prelude.{ℕ, ◌*◌, ◌/◌, ◌≤◌};
     ghost use Rattle.demand_law.specs.Law.{IsLaw, greatest_of, upto_of};
+    ghost use Rattle.demand_law.specs.Picked.{picked};
 
     /// The law of these weights.
-    pub(crate) fn from_weights(weights: Vec<u128>) -> Law
+    pub(crate) fn from_weights(alloc: Global, weights: Vec<u128>) -> Result<Law, AllocError>
         requires { IsLaw weights.items }
-        ensures { result ≡ weights.items }
+        ensures { IfOk result (λ law. law ≡ weights.items) }
     {
-        Law { weights }
+        let sums = running_sums(alloc, &weights)?;
+        Ok(Law { weights, sums })
+    }
+
+    /// The same law once more.
+    pub fn copy(&self, alloc: Global) -> Result<Law, Memory>
+        ensures { IfOk result (λ law. law ≡ self.now) }
+    {
+        let Ok(weights) = self.weights.to_vec(alloc) else {
+            return Err(Memory);
+        };
+        match Law::from_weights(alloc, weights) {
+            Ok(law) => Ok(law),
+            Err(_) => Err(Memory),
+        }
     }
 
     /// The weight of a demand, 0 above the greatest.
@@ -83,7 +111,7 @@ impl Law {
     pub fn total(&self) -> u128
         ensures { result ≡ sum self.now }
     {
-        self.weights.iter().sum()
+        self.upto(self.greatest())
     }
 
     /// The greatest demand.
@@ -97,8 +125,21 @@ impl Law {
     pub fn upto(&self, d: u32) -> u128
         ensures { result ≡ upto_of self.now d }
     {
-        let count = (d as usize + 1).min(self.weights.len());
-        sum_of(&self.weights[..count])
+        self.sums[d.min(self.greatest()) as usize]
+    }
+
+    /// The demand that a word of 32 random bits picks: the words stand for the weights in order, and the demand is the
+    /// least one up to which the weights add up to more than the word's share of their sum.
+    ///
+    /// It is a binary search, and takes no memory.
+    pub fn pick(&self, word: u32) -> u32
+        requires { sum self.now ≤ 1000000000 }
+        ensures value { result ≡ picked self.now word }
+        ensures above { word * sum self.now / 2 ^ 32 < upto_of self.now result }
+        ensures least { (d : ℕ) → d < result → upto_of self.now d ≤ word * sum self.now / 2 ^ 32 }
+    {
+        let share = u128::from(word) * self.total() / (1 << 32);
+        self.sums.partition_point(|sum| *sum <= share) as u32
     }
 
     /// The weights, from that of demand 0 on.
@@ -107,5 +148,40 @@ impl Law {
         ensures law { IsLaw self.now }
     {
         &self.weights
+    }
+}
+
+#[cfg(test)]
+mod tests {
+    use super::*;
+    use std::test::Fail;
+
+    #[test]
+    fn sums_of_weights(rt: HostRuntime) -> Result<(), Fail> {
+        let law = Law::from_points(rt.alloc(), &[(3, 2), (0, 1)])?;
+        for (demand, sum) in [(0, 1), (2, 1), (3, 3), (4, 3), (4_294_967_295, 3)] {
+            assert_eq!(rt; law.upto(demand), sum, "up to {demand}");
+        }
+        assert_eq!(rt; law.total(), 3);
+        Ok(())
+    }
+
+    #[test]
+    fn picks(rt: HostRuntime) -> Result<(), Fail> {
+        let law = Law::from_points(rt.alloc(), &[(3, 2), (0, 1), (7, 1)])?;
+        for (word, demand) in [
+            (0, 0),
+            (1_073_741_823, 0),
+            (1_073_741_824, 3),
+            (3_221_225_471, 3),
+            (3_221_225_472, 7),
+            (4_294_967_295, 7),
+        ] {
+            assert_eq!(rt; law.pick(word), demand, "at {word}");
+        }
+        let copied = law.copy(rt.alloc())?;
+        assert_eq!(rt; copied.weights(), law.weights());
+        assert_eq!(rt; copied.pick(3_221_225_472), 7);
+        Ok(())
     }
 }

@@ -115,7 +115,7 @@ impl Law {
         }
         let mut weights = vec![in alloc; 0; lo as usize]?;
         weights.resize(hi as usize + 1, 1)?;
-        Ok(Law::from_weights(weights))
+        Ok(Law::from_weights(alloc, weights)?)
     }
 
     /// The law of the number of successes in `n` trials, each of which succeeds with probability `a`/`b`: demand k has
@@ -159,7 +159,7 @@ impl Law {
             return Err(LawErr::Bad(LawFault::NotMultiple));
         }
         let multiples = multiplied(alloc, weights, total / sum)?;
-        Ok(Law::from_weights(multiples))
+        Ok(Law::from_weights(alloc, multiples)?)
     }
 }
 

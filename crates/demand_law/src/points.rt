@@ -68,6 +68,6 @@ impl Law {
         if total > MOST_TOTAL {
             return Err(LawErr::Bad(LawFault::TooLarge));
         }
-        Ok(Law::from_weights(weights))
+        Ok(Law::from_weights(alloc, weights)?)
     }
 }

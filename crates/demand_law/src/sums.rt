@@ -89,7 +89,7 @@ pub fn convolve(alloc: Global, a: &Law, b: &Law) -> Result<Law, SumErr>
     let second = b.weights();
     let mut weights = vec![in alloc; 0; first.len() + second.len() - 1]?;
     convolve_into(first, second, &mut weights);
-    Ok(Law::from_weights(weights))
+    Ok(Law::from_weights(alloc, weights)?)
 }
 
 // The law of a place, counted from `from` on.
@@ -214,7 +214,7 @@ pub fn lead_sum(alloc: Global, laws: &[Law], from: usize, count: usize) -> Resul
     let mut sums = vec![in alloc; 0; width]?;
     let mut next = vec![in alloc; 0; width]?;
     sum_into(laws, from, count, &mut sums, &mut next);
-    Ok(Law::from_weights(sums))
+    Ok(Law::from_weights(alloc, sums)?)
 }
 
 /// Writes the weights of the law that `lead_sum` gives into the first places of `sums`, and says how many they are. The

@@ -130,7 +130,7 @@ values it word valid =
 
 rules_met : (it : Instance) → IsValidNetwork it → network_broken it ≡ Ok tt
 unfolding network_broken
-rules_met it valid = rw (valid.simulated, valid.shaped, valid.apart, valid.light) refl
+rules_met it valid = rw (valid.seeded, valid.shaped, valid.apart, valid.light) refl
 
 -- ---- no float, and six levels at most
 rule_plain : (rule : Rule) → IsPlain 2 (rule_data rule)
@@ -191,7 +191,7 @@ network_proven it = record {
   kind = (under it).kind;
   plain = plain it;
   back = λ typed valid. again Network network_text it (under it).keys (values it typed valid);
-  regular = λ readable meets grid. record { readable = readable; simulated = meets.simulated; shaped = meets.shaped; apart = meets.apart; light = meets.light };
+  regular = λ readable meets grid. record { readable = readable; seeded = meets.seeded; shaped = meets.shaped; apart = meets.apart; light = meets.light };
   valid = λ regular width. regular;
   readable = λ valid. valid.readable;
   met = λ valid. rules_met it valid;

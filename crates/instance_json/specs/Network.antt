@@ -19,11 +19,12 @@ use Rattle.decision_model.specs.Nodes.{outside, node_at}
 use Rattle.decision_model.specs.Shape.{misshapen_node}
 use Rattle.decision_model.specs.Pauses.{overlapping_span}
 use Rattle.decision_model.specs.Load.{overloaded_node}
-use Rattle.decision_model.specs.Network.{IsReadableNetwork, is_simulated}
+use Rattle.decision_model.specs.Network.{IsReadableNetwork, is_seeded}
 use Rattle.instance_json.specs.declared.law_texts.TheConstants.{MOST_WORD}
 use Rattle.instance_json.specs.declared.fault.KeyList.TheVariants.{Nodes, Pauses}
 use Rattle.instance_json.specs.declared.fault.InstanceFault.{InstanceFault}
-use Rattle.instance_json.specs.declared.fault.InstanceFault.TheVariants.{NotBuilt, NetworkShape, Overlap, Load}
+use Rattle.instance_json.specs.declared.fault.InstanceFault.TheVariants.{Missing, NetworkShape, Overlap, Load}
+use Rattle.instance_json.specs.Faults.{top_key}
 use Rattle.instance_json.specs.Steps.{◌>>=◌, unless}
 use Rattle.instance_json.specs.Numbers.{amount_in}
 use Rattle.instance_json.specs.Keys.{Row, needs, allows, required, given, optional}
@@ -63,14 +64,14 @@ unless_some fault (Some place) = Err (fault place)
 
 unfoldable pub network_broken : Network → Result ⊤ InstanceFault
 network_broken net = do
-  _ ← unless NotBuilt (is_simulated net)
+  _ ← unless (Missing (top_key (codes "seed"))) (is_seeded net)
   _ ← unless_some NetworkShape (misshapen_node net)
   _ ← unless_some Overlap (overlapping_span net.pauses)
   unless_some Load (overloaded_node net)
 
 -- what the rules mean
 pub record MeetsNetworkRules (net : Network) : Type 0 where
-  pub simulated : is_simulated net ≡ true
+  pub seeded : is_seeded net ≡ true
   pub shaped : misshapen_node net ≡ None
   pub apart : overlapping_span net.pauses ≡ None
   pub light : overloaded_node net ≡ None

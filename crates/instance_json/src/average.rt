@@ -68,12 +68,12 @@ impl KindText for Average {
         })
     }
 
-    fn rules(&self) -> Result<(), InstanceFault> {
+    fn rules(&self, _alloc: Global) -> Result<(), InstanceErr> {
         if !has_demand(self) {
-            return Err(InstanceFault::NoDemand);
+            return Err(InstanceErr::Bad(InstanceFault::NoDemand));
         }
         if !lots_fit(self) {
-            return Err(InstanceFault::NotUnitDemand);
+            return Err(InstanceErr::Bad(InstanceFault::NotUnitDemand));
         }
         Ok(())
     }

@@ -34,8 +34,6 @@ pub enum InstanceFault {
     NotJson,
     /// The value isn't an object with the name of a kind.
     UnknownKind,
-    /// A network has drawn demand or a rule of the caller's own, which aren't built yet.
-    NotBuilt,
     /// A required key is absent.
     Missing(Key),
     /// A key isn't one of the kind's.

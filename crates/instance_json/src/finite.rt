@@ -157,7 +157,7 @@ impl KindText for Finite {
         })
     }
 
-    fn rules(&self) -> Result<(), InstanceFault> {
+    fn rules(&self, _alloc: Global) -> Result<(), InstanceErr> {
         Ok(())
     }
 

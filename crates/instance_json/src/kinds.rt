@@ -7,7 +7,7 @@ ghost use Rattle.instance_json.specs.Keys.{has_keys};
 ghost use Rattle.instance_json.specs.KindText.{read_by};
 ghost use Rattle.instance_json.specs.Kinds.{of_kind, text_of};
 
-use crate::fault::{InstanceErr, InstanceFault};
+use crate::fault::InstanceErr;
 use decision_model::{Instance, Kind};
 use serde_json::Value;
 use std::alloc::{AllocError, Global};
@@ -28,9 +28,9 @@ pub trait KindText: Sized {
         ensures readable { IfOk result text.readable };
 
     /// The first rule over several keys that is broken.
-    fn rules(&self) -> Result<(), InstanceFault>
+    fn rules(&self, alloc: Global) -> Result<(), InstanceErr>
         requires { text.readable self.now }
-        ensures value { result ≡ text.broken self.now }
+        ensures value { Gives result (text.broken self.now) }
         ensures meaning { OnOk result (text.meets self.now) };
 
     fn to_value(&self, alloc: Global) -> Result<Value, AllocError>
@@ -78,12 +78,12 @@ macro_rules! of_any_kind {
 }
 
 /// The first rule of its kind that an instance breaks.
-pub fn kind_rules(instance: &Instance) -> Result<(), InstanceFault>
+pub fn kind_rules(alloc: Global, instance: &Instance) -> Result<(), InstanceErr>
     requires { IsReadable instance.now }
-    ensures value { result ≡ (text_of instance.now).broken }
+    ensures value { Gives result (text_of instance.now).broken }
     ensures meaning { OnOk result (text_of instance.now).meets }
 {
-    of_any_kind!(instance, held => held.rules())
+    of_any_kind!(instance, held => held.rules(alloc))
 }
 
 /// The JSON value of an instance.

@@ -56,9 +56,9 @@ impl KindText for LotSize {
         })
     }
 
-    fn rules(&self) -> Result<(), InstanceFault> {
+    fn rules(&self, _alloc: Global) -> Result<(), InstanceErr> {
         match speculative_period(self) {
-            Some(period) => Err(InstanceFault::Speculative(period)),
+            Some(period) => Err(InstanceErr::Bad(InstanceFault::Speculative(period))),
             None => Ok(()),
         }
     }

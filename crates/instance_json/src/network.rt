@@ -7,7 +7,7 @@ ghost use Rattle.instance_json.specs.Members.{listed, put_all};
 ghost use Rattle.instance_json.specs.Network.{network_to_periods, seed_members};
 
 use crate::fault::{InstanceErr, InstanceFault, KeyList};
-use crate::form::{given, required};
+use crate::form::{given, missing, required};
 use crate::items::{objects_or_none, read_items, required_objects};
 use crate::keys::KeyRow::{Allowed, Needed};
 use crate::keys::{KeyRow, has_keys};
@@ -20,9 +20,7 @@ use crate::numbers::Count;
 use crate::pauses::NodePause;
 use crate::write_values::{put_amounts, put_text};
 use decision_model::limits::{MOST_NETWORK_PERIODS, MOST_NODES, MOST_PAUSES};
-use decision_model::{
-    Kind, Network, is_simulated, misshapen_node, overlapping_span, overloaded_node,
-};
+use decision_model::{Kind, Network, is_seeded, misshapen_node, overlapping_span, overloaded_node};
 use serde_json::{Map, Value, put};
 use std::alloc::{AllocError, Global};
 
@@ -118,18 +116,18 @@ impl KindText for Network {
     }
 
     #[tactic(auto, unfolding(crate::specs::Network::network_broken))]
-    fn rules(&self) -> Result<(), InstanceFault> {
-        if !is_simulated(self) {
-            return Err(InstanceFault::NotBuilt);
+    fn rules(&self, alloc: Global) -> Result<(), InstanceErr> {
+        if !is_seeded(self) {
+            return Err(missing(alloc, "seed"));
         }
         if let Some(place) = misshapen_node(self) {
-            return Err(InstanceFault::NetworkShape(place));
+            return Err(InstanceErr::Bad(InstanceFault::NetworkShape(place)));
         }
         if let Some(place) = overlapping_span(self.pauses.as_slice()) {
-            return Err(InstanceFault::Overlap(place));
+            return Err(InstanceErr::Bad(InstanceFault::Overlap(place)));
         }
         if let Some(place) = overloaded_node(self) {
-            return Err(InstanceFault::Load(place));
+            return Err(InstanceErr::Bad(InstanceFault::Load(place)));
         }
         Ok(())
     }

@@ -12,7 +12,6 @@ fn told(fault: &InstanceFault) -> (&'static str, Option<&Key>) {
         InstanceFault::OutOfRange(key) => ("out of range", Some(key)),
         InstanceFault::LengthMismatch(key) => ("wrong length", Some(key)),
         InstanceFault::BadLaw(key, _) => ("no law", Some(key)),
-        InstanceFault::NotBuilt => ("not built yet", None),
         InstanceFault::NetworkShape(1) => ("node 1: network shape", None),
         InstanceFault::NetworkShape(2) => ("node 2: network shape", None),
         InstanceFault::Overlap(2) => ("pause 2: overlap", None),
@@ -284,33 +283,38 @@ fn refuses_keys_of_pauses(rt: HostRuntime) {
 
 #[test]
 fn refuses_rules_over_several_keys(rt: HostRuntime) {
-    for (text, reason) in [
+    for (text, name, reason) in [
+        // The seed is asked for before the shape.
         (
             network!(
-                "{\"name\":\"a\",\"initial\":0,\"holding\":0,\"rule\":{\"house\":0,\"cap\":1},\"sources\":[{\"from\":\"a\",\"lead\":1}]}"
+                "{\"name\":\"a\",\"initial\":0,\"holding\":0,\"rule\":{\"base\":1},\"sources\":[{\"from\":\"b\",\"lead\":1}],\"demand\":{\"uniform\":[2,2]}}"
             ),
-            "not built yet",
+            "seed",
+            "missing",
         ),
         (
             network!(
                 "{\"name\":\"a\",\"initial\":0,\"holding\":0,\"rule\":{\"base\":1},\"sources\":[{\"from\":\"b\",\"lead\":1}]}"
             ),
+            "",
             "node 1: network shape",
         ),
         (
             network!(
                 "{\"name\":\"a\",\"initial\":0,\"holding\":0,\"rule\":{\"base\":1},\"sources\":[{\"from\":\"outside\",\"lead\":1}]},{\"name\":\"a\",\"initial\":0,\"holding\":0,\"rule\":{\"base\":1},\"sources\":[{\"from\":\"outside\",\"lead\":1}]}"
             ),
+            "",
             "node 2: network shape",
         ),
         (
             paused!(
                 "[{\"node\":\"a\",\"what\":\"orders\",\"from\":1,\"to\":2},{\"node\":\"a\",\"what\":\"orders\",\"from\":2,\"to\":2}]"
             ),
+            "",
             "pause 2: overlap",
         ),
     ] {
-        refused(&rt, rt.alloc(), text, "", 0, "", reason);
+        refused(&rt, rt.alloc(), text, "", 0, name, reason);
     }
 }
 

@@ -41,7 +41,7 @@ impl KindText for Newsvendor {
         })
     }
 
-    fn rules(&self) -> Result<(), InstanceFault> {
+    fn rules(&self, _alloc: Global) -> Result<(), InstanceErr> {
         Ok(())
     }
 

@@ -69,8 +69,6 @@ pub fn read_instance(alloc: Global, bytes: &[u8]) -> Result<Instance, InstanceEr
     ensures valid { IfOk result IsValid }
 {
     let instance = fields_in(alloc, bytes)?;
-    match rules(&instance) {
-        Ok(()) => Ok(instance),
-        Err(fault) => Err(InstanceErr::Bad(fault)),
-    }
+    rules(alloc, &instance)?;
+    Ok(instance)
 }

@@ -1,24 +1,27 @@
 // The rules over several keys of an instance.
-ghost use Rattle.std.specs.Prelude.{◌≡◌, OnOk};
+ghost use Rattle.std.specs.Prelude.{OnOk};
 ghost use Rattle.decision_model.specs.Valid.{IsReadable, IsValid};
+ghost use Rattle.instance_json.specs.Faults.{Gives};
 ghost use Rattle.instance_json.specs.Rules.{rules_of};
 
-use crate::fault::InstanceFault;
+use crate::fault::{InstanceErr, InstanceFault};
 use crate::kinds::kind_rules;
 use decision_model::{Instance, grid_fits, width_ok};
+use std::alloc::Global;
 
 /// The first rule that is broken: one of the kind, the size of the grid, the width of the exact numbers.
-pub fn rules(instance: &Instance) -> Result<(), InstanceFault>
+#[tactic(auto, using(crate::proofs::Chained::gives_refused, crate::proofs::Chained::gives_rest, crate::proofs::Chained::taken), unfolding(crate::specs::Rules::rules_of))]
+pub fn rules(alloc: Global, instance: &Instance) -> Result<(), InstanceErr>
     requires { IsReadable instance.now }
-    ensures value { result ≡ rules_of instance.now }
+    ensures value { Gives result (rules_of instance.now) }
     ensures valid { OnOk result (IsValid instance.now) }
 {
-    kind_rules(instance)?;
+    kind_rules(alloc, instance)?;
     if !grid_fits(instance) {
-        return Err(InstanceFault::Grid);
+        return Err(InstanceErr::Bad(InstanceFault::Grid));
     }
     if !width_ok(instance) {
-        return Err(InstanceFault::Width);
+        return Err(InstanceErr::Bad(InstanceFault::Width));
     }
     Ok(())
 }

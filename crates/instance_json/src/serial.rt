@@ -75,7 +75,7 @@ impl KindText for Serial {
         })
     }
 
-    fn rules(&self) -> Result<(), InstanceFault> {
+    fn rules(&self, _alloc: Global) -> Result<(), InstanceErr> {
         Ok(())
     }
 

@@ -9,7 +9,6 @@ fn words(fault: &InstanceFault) -> (&'static str, &[u8]) {
     match fault {
         InstanceFault::NotJson => ("not JSON", &[]),
         InstanceFault::UnknownKind => ("unknown kind", &[]),
-        InstanceFault::NotBuilt => ("not built yet", &[]),
         InstanceFault::Missing(key) => ("missing", key.name.bytes()),
         InstanceFault::UnknownKey(key) => ("unknown key", key.name.bytes()),
         InstanceFault::WrongType(key) => ("wrong type", key.name.bytes()),

@@ -7,6 +7,7 @@ use Rattle.decision_model.specs.Network.{IsValidNetwork}
 use Rattle.decision_model.specs.Pauses.{is_paused}
 use Rattle.node_state.specs.Holdings.{Holding, new_holding, legs_of}
 use Rattle.node_state.specs.Sound.{length-map_of}
+use Rattle.node_state.specs.Handed.{Handed}
 use Rattle.node_state.specs.Totals.{Setting, claims_on}
 use Rattle.node_state.specs.Table.{orders_of_run, served_of_run}
 use Rattle.network_sim.specs.declared.station.Station.{Station}
@@ -17,9 +18,9 @@ use Rattle.network_sim.specs.ValidNetworks.{shaped_nodes, loaded}
 use Rattle.network_sim.specs.TableRun.{table_is_run}
 use Rattle.network_sim.proofs.Start.{start_is}
 
-module _ (net : Network) (valid : IsValidNetwork net) (demand : ℕ → ℕ → ℕ) where
+module _ (net : Network) (valid : IsValidNetwork net) (demand : ℕ → ℕ → ℕ) (handed : List Handed) where
   abbrev setting : Setting
-  setting = record { network = net; demand = demand }
+  setting = record { network = net; demand = demand; handed = handed }
 
   pub new_holds : (stations : List Station) (nodes : List Holding) → AreStationsOf net stations → length nodes ≡ length net.nodes →
       ((k : ℕ) → k < length net.nodes → node nodes k ≡ new_holding (node_at net.nodes k).initial (legs_of (node_at net.nodes k).sources) (length (station stations k).callers)) →
@@ -71,9 +72,9 @@ pub replicate_length : (n z : ℕ) → length (replicate n z) ≡ n
 replicate_length zero z = refl
 replicate_length (suc n) z = ap suc (replicate_length n z)
 
-pub nothing_demanded : (net : Network) (demand : ℕ → ℕ → ℕ) (n z : ℕ) (xs : List ℕ) → z ≡ 0 → xs ≡ replicate n z → n ≡ length net.nodes →
-    AreDemanded (record { network = net; demand = demand }) 0 xs
-nothing_demanded net demand n z xs none e all = record {
+pub nothing_demanded : (net : Network) (demand : ℕ → ℕ → ℕ) (handed : List Handed) (n z : ℕ) (xs : List ℕ) → z ≡ 0 → xs ≡ replicate n z → n ≡ length net.nodes →
+    AreDemanded (record { network = net; demand = demand; handed = handed }) 0 xs
+nothing_demanded net demand handed n z xs none e all = record {
   all = ap length e ∙ replicate_length n z ∙ all;
   each = λ k lt. ap (λ d. get_or xs k d) (sym none) ∙ ap (λ ys. get_or ys k z) e ∙ all_same n k z ∙ none;
 }

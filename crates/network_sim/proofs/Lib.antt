@@ -1,4 +1,6 @@
 pub mod Lists
+pub mod Ruled
+pub mod Boxes
 pub mod Loads
 pub mod Phases
 pub mod Start
@@ -8,11 +10,15 @@ pub mod Arrived
 pub mod Supplied
 pub mod Passes
 pub mod SupplyPasses
+pub mod Refused
+pub mod Replied
+pub mod Answered
 pub mod Periods
 pub mod Wired
 pub mod Played
 pub mod EchelonPlaces
 pub mod Drawn
 pub mod Begun
+pub mod Going
 pub mod Balanced
 mod Worked

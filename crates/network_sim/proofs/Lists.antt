@@ -5,9 +5,7 @@ use Rattle.std.proofs.lemmas.Bool.{cases_lt}
 use Rattle.std.proofs.lemmas.List.{get_or-set_same, get_or-set_other}
 use Rattle.node_state.specs.Totals.{Line}
 use Rattle.node_state.specs.Table.{costs}
-use Rattle.std.specs.List.{All}
 use Rattle.network_sim.specs.Machine.{sum_at, no_line}
-use Rattle.std.proofs.lemmas.List.Elements.{All-head, All-tail}
 
 pub map_at : {X Y : Type 0} (f : X → Y) (xs : List X) (i : ℕ) (d : X) (e : Y) → i < length xs → get_or (map f xs) i e ≡ f (get_or xs i d)
 map_at f [] i d e lt = absurd (omega arith)

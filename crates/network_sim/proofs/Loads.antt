@@ -1,17 +1,20 @@
 -- Totals stay within the load: one induction over periods, one over listed order.
-use Rattle.std.proofs.Common.{◌≡◌, ℕ, zero, suc, ◌+◌, ◌*◌, ◌<◌, ◌≤◌, ℤ, pos, ◌+ℤ◌, ◌-ℤ◌, ◌≤ℤ◌, Bool, true, false, cond, List, [], ◌∷◌, length, sym, subst, arith, mul-le-mul_right}
+use Rattle.std.proofs.Common.{◌≡◌, ℕ, zero, suc, ◌+◌, ◌*◌, ◌<◌, ◌≤◌, ℤ, pos, ◌+ℤ◌, ◌-ℤ◌, ◌≤ℤ◌, Bool, true, false, cond, min, None, List, [], ◌∷◌, length, refl, sym, ◌∙◌, ap, subst, arith, mul-le-mul_right}
 use Rattle.std.proofs.lemmas.Int.{ints}
-use Rattle.node_state.specs.Totals.{Setting, spec_at, before, claims_of, claims_upto, demanded, seen, position, IsRun, IsShaped, IsLoaded, orders_paused}
+use Rattle.node_state.specs.Totals.{Setting, spec_at, before, claims_of, claims_upto, demanded, seen, position, IsRun, IsShaped, IsLoaded, orders_paused, order_by, answer}
 use Rattle.network_sim.specs.Windows.{IsRunning}
 use Rattle.network_sim.specs.Claims.{AllBelow, below_append, below_total}
 use Rattle.network_sim.specs.Runs.{orders_up}
 use Rattle.decision_model.specs.declared.network.Link.{Link}
-use Rattle.node_state.specs.Orders.{order_of}
+use Rattle.node_state.specs.Orders.{order_of, house_of}
 use Rattle.node_state.specs.Peaks.{order_within}
 use Rattle.network_sim.specs.Simulated.{IsFed}
 use Rattle.decision_model.specs.Nodes.{peak_of, top_of, is_from, is_echelon}
 use Rattle.decision_model.specs.Shape.{is_below}
-use Rattle.decision_model.specs.Load.{echelon_sum, own_load, need_most, order_limit}
+use Rattle.decision_model.specs.declared.network.Rule.{Rule}
+use Rattle.decision_model.specs.declared.network.Rule.TheVariants.{Base, MinMax, Lot, Echelon, House}
+use Rattle.decision_model.specs.Load.{echelon_sum, own_load, need_most, order_limit, order_most as most_of}
+use Rattle.network_sim.proofs.Ruled.{plain_order, plain_limit}
 
 below_either : (b : Bool) (x y : ℕ) (xs ys : List ℕ) → x ≤ y → AllBelow xs ys → AllBelow (cond b (x ∷ xs) xs) (cond b (y ∷ ys) ys)
 below_either true x y xs ys h p = (h, p)
@@ -81,10 +84,21 @@ module _ (setting : Setting) (O : ℕ → ℕ → ℕ) (V : ℕ → ℕ → List
       echelon_sum setting.network.nodes i (λ j. (spec_at setting j).initial) (suc i) ≤ echelon_sum setting.network.nodes i (own_load setting.network) (suc i)
   echelon_initial i = echelon_most setting i (λ j. (spec_at setting j).initial) (own_load setting.network) (suc i) (λ k less. omega arith)
 
+  -- a rule of the caller's own orders at most its cap in each period
+  house_most : (index cap : ℕ) (i : ℕ) → i < length setting.network.nodes → (spec_at setting i).rule ≡ House index cap → (t : ℕ) → O i t ≤ t * cap
+  house_most index cap i lt e zero = let a = r.no_orders i in omega arith
+  house_most index cap i lt e (suc t) =
+      let a = house_most index cap i lt e t in
+      let b = r.orders i t lt ∙ ap (λ rule. O i t + cond (orders_paused setting i (suc t)) 0 (order_by rule (position setting O i t) (λ k. answer setting O i k t))) e in
+      let d = capped (orders_paused setting i (suc t)) (answer setting O i index t) cap in
+      omega arith
+    where
+      capped : (b : Bool) (n cap : ℕ) → cond b 0 (min n cap) ≤ cap
+      capped true n cap = omega arith
+      capped false n cap = omega arith
+
   step : (t i : ℕ) → i < length setting.network.nodes → suc t ≤ last → O i t ≤ order_limit setting.network i → seen setting O i (suc t) ≤ need_most setting.network i → O i (suc t) ≤ order_limit setting.network i
-  step t i lt le here few =
-      subst (λ n. n ≤ order_limit setting.network i) (sym (r.orders i t lt))
-      (by (is_echelon (spec_at setting i).rule) (l.limit_is i lt) (order_within (spec_at setting i).rule (position setting O i t)))
+  step t i lt le here few = by_rule (spec_at setting i).rule refl
     where
       D : ℕ
       D = echelon_sum setting.network.nodes i (λ j. demanded setting j (suc t)) (suc i)
@@ -107,6 +121,25 @@ module _ (setting : Setting) (O : ℕ → ℕ → ℕ) (V : ℕ → ℕ → List
           O i t + cond (orders_paused setting i (suc t)) 0 (order_of (spec_at setting i).rule (at b)) ≤ order_limit setting.network i
       by true e law = order_most (O i t) B D (peak_of (spec_at setting i).rule) (order_limit setting.network i) _ (orders_paused setting i (suc t)) law here (let a = many in omega arith)
       by false e law = order_most (O i t) (spec_at setting i).initial (seen setting O i (suc t)) (peak_of (spec_at setting i).rule) (order_limit setting.network i) _ (orders_paused setting i (suc t)) law here (omega arith)
+
+      plain : house_of (spec_at setting i).rule ≡ None → O i (suc t) ≤ order_limit setting.network i
+      plain none =
+          subst (λ n. n ≤ order_limit setting.network i)
+          (sym (r.orders i t lt ∙ ap (λ q. O i t + cond (orders_paused setting i (suc t)) 0 q) (plain_order (spec_at setting i).rule (position setting O i t) (λ index. answer setting O i index t) none)))
+          (by (is_echelon (spec_at setting i).rule)
+          (l.limit_is i lt ∙ plain_limit (spec_at setting i).rule setting.network.periods (need_most setting.network i + (spec_at setting i).initial) E none)
+          (order_within (spec_at setting i).rule (position setting O i t)))
+
+      by_rule : (rule : Rule) → (spec_at setting i).rule ≡ rule → O i (suc t) ≤ order_limit setting.network i
+      by_rule (Base level) e = plain (ap house_of e)
+      by_rule (MinMax low high) e = plain (ap house_of e)
+      by_rule (Lot reorder lot) e = plain (ap house_of e)
+      by_rule (Echelon level) e = plain (ap house_of e)
+      by_rule (House index cap) e =
+          let a = house_most index cap i lt e (suc t) in
+          let b : suc t * cap ≤ setting.network.periods * cap = mul-le-mul_right cap (omega arith) in
+          let d = l.limit_is i lt ∙ ap (λ rule. most_of rule setting.network.periods (need_most setting.network i + (spec_at setting i).initial) E) e in
+          omega arith
 
   -- in period suc t, by the nodes listed before
   in_order : (t : ℕ) → suc t ≤ last → ((i : ℕ) → i < length setting.network.nodes → O i t ≤ order_limit setting.network i) → (n i : ℕ) → i < n → i < length setting.network.nodes → O i (suc t) ≤ order_limit setting.network i

@@ -6,7 +6,7 @@ use Rattle.std.proofs.lemmas.List.{get_or-set_same, get_or-set_other, length-set
 use Rattle.std.proofs.lemmas.List.Elements.{All-weaker}
 use Rattle.network_sim.specs.declared.links.Caller.{Caller}
 use Rattle.node_state.specs.Holdings.{Holding, Leg, no_holding, no_leg, begun, with_claims, placed, total}
-use Rattle.node_state.specs.Totals.{Setting, spec_at, before, position, claims_on, IsRun, IsShaped, IsLoaded, orders_paused}
+use Rattle.node_state.specs.Totals.{Setting, spec_at, before, position, claims_on, IsRun, IsShaped, IsLoaded, orders_paused, order_by, answer}
 use Rattle.node_state.specs.Stands.{less, held, leg_ordered, at_rest, at_seen, at_ordered, served_before}
 use Rattle.network_sim.specs.Machine.{node, front, fronts, noted_node, ordered_node, CanOrder, after_orders, AreCallersOf}
 use Rattle.network_sim.specs.Windows.{gained, first_is}
@@ -14,7 +14,6 @@ use Rattle.node_state.specs.Sound.{length-map_of}
 use Rattle.network_sim.proofs.Phases.{seen_phase, ordered_phase}
 use Rattle.network_sim.specs.Runs.{steady, orders_up}
 use Rattle.network_sim.proofs.Loads.{orders_most, noted_most}
-use Rattle.node_state.specs.Orders.{order_of}
 use Rattle.decision_model.specs.Nodes.{no_link}
 use Rattle.network_sim.specs.Simulated.{IsFed}
 use Rattle.network_sim.proofs.Lists.{map_at}
@@ -31,7 +30,7 @@ held_length (c ∷ cs) vs us = ap suc (held_length cs (drop 1 vs) (drop 1 us))
 module _ (setting : Setting) (O : ℕ → ℕ → ℕ) (V : ℕ → ℕ → List ℕ) (r : IsRun setting O V) (shape : IsShaped setting.network.nodes)
     (load : IsLoaded setting.network)
     (t : ℕ) (left : suc t ≤ setting.network.periods) (fed : IsFed setting (suc t))
-    (order : ℕ → Holding → ℕ) (is_order : (i : ℕ) → i < length setting.network.nodes → order i (at_seen setting O V t i) ≡ order_of (spec_at setting i).rule (position setting O i t))
+    (order : ℕ → Holding → ℕ) (is_order : (i : ℕ) → i < length setting.network.nodes → order i (at_seen setting O V t i) ≡ order_by (spec_at setting i).rule (position setting O i t) (λ index. answer setting O i index t))
     (callers : ℕ → List Caller) (are : (i : ℕ) → i < length setting.network.nodes → AreCallersOf setting.network.nodes i (callers i)) where
   -- the first i nodes have ordered
   pub record HaveOrdered (i : ℕ) (ns : List Holding) : Type 0 where

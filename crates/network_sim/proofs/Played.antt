@@ -1,10 +1,11 @@
 -- What a simulator holds once it has run a period.
-use Rattle.std.proofs.Common.{◌≡◌, ℕ, zero, suc, ◌+◌, ◌-◌, ◌*◌, ◌^◌, ◌<◌, ◌≤◌, List, [], ◌∷◌, length, slice_index, refl, sym, ◌∙◌, ap, subst, arith, get_or, ◌⊎◌, inl, inr}
+use Rattle.std.proofs.Common.{◌≡◌, ℕ, zero, suc, ◌+◌, ◌-◌, ◌*◌, ◌^◌, ◌<◌, ◌≤◌, List, [], ◌∷◌, length, slice_index, sym, ◌∙◌, ap, subst, arith, get_or, ◌⊎◌, inl, inr}
 use Rattle.std.proofs.lemmas.Bool.{cases_lt}
 use Rattle.decision_model.specs.declared.network.NodeSpec.{NodeSpec}
 use Rattle.decision_model.specs.Nodes.{top_of}
 use Rattle.decision_model.specs.Pauses.{is_paused}
 use Rattle.decision_model.specs.declared.network.Pause.TheVariants.{Orders, Shipments, Receipts}
+use Rattle.node_state.specs.Handed.{Handed}
 use Rattle.node_state.specs.Holdings.{Holding, total_due}
 use Rattle.node_state.specs.Totals.{Setting, Line, spec_at, line, IsRun}
 use Rattle.node_state.specs.Table.{orders_of_run, served_of_run, row, lines_from, costs}
@@ -13,7 +14,7 @@ use Rattle.network_sim.specs.declared.station.Station.{Station}
 use Rattle.network_sim.specs.declared.pauses.Paused.{Paused}
 use Rattle.network_sim.specs.declared.state.State.{State}
 use Rattle.network_sim.specs.Machine.{node, station, flag_at, no_line, line_of}
-use Rattle.network_sim.specs.Simulated.{IsFed, Holds, AreDemanded, AreDemands, ArePaused, IsReady, AreStationsOf, IsStateAfter}
+use Rattle.network_sim.specs.Simulated.{IsFed, Holds, AreDemanded, AreDemands, ArePaused, IsReady, AreStationsOf, AreFit, IsStateAfter}
 use Rattle.network_sim.specs.Runs.{steady, orders_up}
 use Rattle.network_sim.specs.Balance.{row_is}
 use Rattle.network_sim.specs.TableRun.{table_is_run, lines_length}
@@ -79,8 +80,8 @@ module _ (s : Setting) (n : ℕ) (state : State) (after : IsStateAfter s n state
         shipments = λ k lt. f k (let x = after.shipments_room in omega arith) ∙ after.pauses Shipments k (state.played + 1) ∙ ap (λ u. is_paused s.network.pauses Shipments k u) period;
       }
 
-  pub ready : (so_far : List ℕ) (paused : Paused) → AreDemanded s (suc n) so_far → ArePaused s (suc n) paused → IsReady s n state.nodes.items state.stations.items so_far units paused
-  ready so_far paused d p = record {
+  pub ready : (so_far : List ℕ) (paused : Paused) → AreDemanded s (suc n) so_far → ArePaused s (suc n) paused → (now : List Handed) (caps : List ℕ) → AreFit s n now caps → IsReady s n state.nodes.items state.stations.items so_far units paused now caps
+  ready so_far paused d p now caps fit = record {
     shaped = after.shaped;
     loaded = after.loaded;
     fed = fed_next;
@@ -90,6 +91,8 @@ module _ (s : Setting) (n : ℕ) (state : State) (after : IsStateAfter s n state
     demanded = d;
     demands = given;
     paused = p;
+    few_nodes = after.few_nodes;
+    fit = fit;
   }
 
   run : IsRun s (orders_of_run s) (served_of_run s)
@@ -129,11 +132,11 @@ module _ (s : Setting) (n : ℕ) (state : State) (after : IsStateAfter s n state
       omega arith
 
   pub ready_now : (nodes : List Holding) (known : List Station) (so_far new : List ℕ) (paused : Paused) → nodes ≡ state.nodes.items → known ≡ state.stations.items → so_far ≡ new →
-      AreDemanded s (suc n) new → ArePaused s (suc n) paused → IsReady s n nodes known so_far units paused
-  ready_now nodes known so_far new paused e f g d p =
-      subst (λ ns. IsReady s n ns known so_far units paused) (sym e)
-      (subst (λ ks. IsReady s n state.nodes.items ks so_far units paused) (sym f)
-      (subst (λ xs. IsReady s n state.nodes.items state.stations.items xs units paused) (sym g) (ready new paused d p)))
+      AreDemanded s (suc n) new → ArePaused s (suc n) paused → (now : List Handed) (caps : List ℕ) → AreFit s n now caps → IsReady s n nodes known so_far units paused now caps
+  ready_now nodes known so_far new paused e f g d p now caps fit =
+      subst (λ ns. IsReady s n ns known so_far units paused now caps) (sym e)
+      (subst (λ ks. IsReady s n state.nodes.items ks so_far units paused now caps) (sym f)
+      (subst (λ xs. IsReady s n state.nodes.items state.stations.items xs units paused now caps) (sym g) (ready new paused d p now caps fit)))
 
   -- the simulator after the period
   pub next : (new : State) →

@@ -5,7 +5,10 @@ pub mod Claims
 pub mod Steady
 pub mod Runs
 pub mod Balance
+pub mod Houses
+pub mod Asks
 pub mod Simulated
 pub mod Wiring
 pub mod ValidNetworks
 pub mod TableRun
+pub mod Examples

@@ -4,11 +4,13 @@ use Rattle.std.proofs.Common.{get_or}
 use Rattle.std.proofs.Math.ListN.{set}
 use Rattle.decision_model.specs.declared.network.NodeSpec.{NodeSpec}
 use Rattle.decision_model.specs.declared.network.Rule.TheVariants.{Base}
+use Rattle.decision_model.specs.declared.network.Demand.TheVariants.{Nobody}
 use Rattle.decision_model.specs.Nodes.{node_at, no_link, is_echelon}
+use Rattle.decision_model.specs.Network.{is_drawn}
 use Rattle.decision_model.specs.Load.{echelon_sum}
 use Rattle.node_state.specs.Holdings.{Holding, local_position, no_holding, no_leg, begun, with_claims, placed, total, total_due}
-use Rattle.node_state.specs.Orders.{order_of}
-use Rattle.node_state.specs.Totals.{Line, before, claims_on}
+use Rattle.node_state.specs.Handed.{Ask, Handed, rule_at, reply_to}
+use Rattle.node_state.specs.Totals.{Line, before, claims_on, order_by}
 use Rattle.network_sim.specs.declared.links.Caller.{Caller}
 use Rattle.network_sim.specs.declared.station.Station.{Station}
 
@@ -51,7 +53,7 @@ after_orders order callers demand paused nodes (suc i) =
 
 -- ---- what a simulator knows of a node
 abbrev pub no_station : Station
-no_station = record { rule = Base (pos 0); holding = 0; stockout = 0; callers = []; suppliers = []; initial = 0; below = []; trace = [] }
+no_station = record { rule = Base (pos 0); holding = 0; stockout = 0; callers = []; suppliers = []; initial = 0; below = []; demand = Nobody }
 
 abbrev pub station : List Station → ℕ → Station
 station stations i = get_or stations i no_station
@@ -62,6 +64,11 @@ callers_at stations i = (station stations i).callers
 abbrev pub flag_at : List Bool → ℕ → Bool
 flag_at flags i = get_or flags i false
 
+-- how many of the first i stations have a law of demand
+abbrev pub drawn_in : List Station → ℕ → ℕ
+drawn_in stations zero = 0
+drawn_in stations (suc i) = drawn_in stations i + cond (is_drawn (station stations i).demand) 1 0
+
 -- the sum of a list's entries at some places
 abbrev pub sum_at : List ℕ → List ℕ → ℕ
 sum_at [] xs = 0
@@ -71,8 +78,20 @@ sum_at (k ∷ ks) xs = get_or xs k 0 + sum_at ks xs
 abbrev pub position_of : Station → List ℕ → Holding → ℤ
 position_of s demanded h = cond (is_echelon s.rule) (pos (s.initial + h.ordered) -ℤ pos (sum_at s.below demanded)) (local_position h)
 
-abbrev pub order_at : List Station → List ℕ → ℕ → Holding → ℕ
-order_at stations demanded i h = order_of (station stations i).rule (position_of (station stations i) demanded h)
+-- what a rule of the caller's own is asked at a node that has seen what comes to it
+abbrev pub ask_of : Station → List ℕ → Holding → Ask
+ask_of s demanded h = record { position = position_of s demanded h; seen = h.seen }
+
+-- the answers of the rules, by index
+abbrev pub replies_of : List Handed → Ask → ℕ → ℕ
+replies_of handed a index = reply_to (rule_at handed index) a
+
+-- what a node orders, with the rules of the caller's own as they are
+abbrev pub order_with : Station → List ℕ → List Handed → Holding → ℕ
+order_with s demanded handed h = order_by s.rule (position_of s demanded h) (replies_of handed (ask_of s demanded h))
+
+abbrev pub order_at : List Station → List ℕ → List Handed → ℕ → Holding → ℕ
+order_at stations demanded handed i h = order_with (station stations i) demanded handed h
 
 -- the sums that the rule of an echelon looks at are small
 pub record IsInReach (s : Station) (demanded : List ℕ) : Type 0 where

@@ -4,12 +4,12 @@ use Rattle.std.specs.List.{All, range_with_len}
 use Rattle.std.proofs.lemmas.Bool.{cases_lt}
 use Rattle.std.proofs.lemmas.List.Elements.{All-weaker, All-head, All-tail}
 use Rattle.node_state.specs.Holdings.{total, zeros}
-use Rattle.node_state.specs.Totals.{Setting, spec_at, before, demanded, slot, claims_of, claims_upto, claims_on, all_claims, orders_next, shipped, shipped_from, received, made, least, serve, served_next, IsRun, IsSource, IsShaped, orders_paused, receipts_paused, shipments_paused, line}
+use Rattle.node_state.specs.Totals.{Setting, spec_at, before, demanded, slot, claims_of, claims_upto, claims_on, all_claims, orders_next, position, asks, order_by, shipped, shipped_from, received, made, least, serve, served_next, IsRun, IsSource, IsShaped, orders_paused, receipts_paused, shipments_paused, line}
 use Rattle.node_state.specs.Table.{Period, nothing, orders_at, served_at, orders_of_first, empties, served_from, first_served, table, period_at, orders_of_run, served_of_run, row, lines_from}
 use Rattle.network_sim.specs.Runs.{length_upto, at_prefix, at_end}
 use Rattle.decision_model.specs.declared.network.Link.{Link}
 use Rattle.decision_model.specs.declared.network.NodeSpec.{NodeSpec}
-use Rattle.node_state.specs.Orders.{order_of}
+use Rattle.node_state.specs.Handed.{rule_at}
 use Rattle.decision_model.specs.Nodes.{is_from, is_echelon}
 use Rattle.decision_model.specs.Load.{echelon_sum}
 
@@ -33,11 +33,27 @@ claims_same setting O P i t zero h = refl
 claims_same setting O P i t (suc n) h =
     λ j. claims_same setting O P i t n (λ m lt. h m (omega arith)) j ++ claims_of_same (O n) (P n) i t (spec_at setting n).sources (h n (omega arith)) j
 
-orders_same : (setting : Setting) (O P : ℕ → ℕ → ℕ) (i t : ℕ) → O i t ≡ P i t → claims_on setting.network.nodes O i (suc t) ≡ claims_on setting.network.nodes P i (suc t) → orders_next setting O i t ≡ orders_next setting P i t
-orders_same setting O P i t e c =
-    λ j. e j + cond (orders_paused setting i (suc t)) 0 (order_of (spec_at setting i).rule (cond (is_echelon (spec_at setting i).rule)
+-- what a node's rule looks at depends on the node's own totals so far, and on those that have reached it
+position_same : (setting : Setting) (O P : ℕ → ℕ → ℕ) (i t : ℕ) → O i t ≡ P i t → claims_on setting.network.nodes O i (suc t) ≡ claims_on setting.network.nodes P i (suc t) → position setting O i t ≡ position setting P i t
+position_same setting O P i t e c =
+    λ j. cond (is_echelon (spec_at setting i).rule)
     (pos (echelon_sum setting.network.nodes i (λ k. (spec_at setting k).initial) (suc i) + e j) -ℤ pos (echelon_sum setting.network.nodes i (λ k. demanded setting k (suc t)) (suc i)))
-    (pos ((spec_at setting i).initial + e j) -ℤ pos (demanded setting i (suc t) + total (c j)))))
+    (pos ((spec_at setting i).initial + e j) -ℤ pos (demanded setting i (suc t) + total (c j)))
+
+module _ (setting : Setting) (O P : ℕ → ℕ → ℕ) (i : ℕ) where
+  asks_same : (t : ℕ) → ((u : ℕ) → u < t → O i u ≡ P i u) → ((u : ℕ) → u ≤ t → claims_on setting.network.nodes O i u ≡ claims_on setting.network.nodes P i u) → asks setting O i t ≡ asks setting P i t
+  asks_same zero h c = refl
+  asks_same (suc t) h c =
+      λ j. asks_same t (λ u less. h u (omega arith)) (λ u le. c u (omega arith)) j
+      ++ record {
+        position = position_same setting O P i t (h t (omega arith)) (c (suc t) (omega arith)) j;
+        seen = (demanded setting i (suc t) + total (c (suc t) (omega arith) j)) - (demanded setting i t + total (c t (omega arith) j));
+      } ∷ []
+
+  orders_same : (t : ℕ) → ((u : ℕ) → u < suc t → O i u ≡ P i u) → ((u : ℕ) → u ≤ suc t → claims_on setting.network.nodes O i u ≡ claims_on setting.network.nodes P i u) → orders_next setting O i t ≡ orders_next setting P i t
+  orders_same t h c =
+      λ j. h t (omega arith) j + cond (orders_paused setting i (suc t)) 0 (order_by (spec_at setting i).rule (position_same setting O P i t (h t (omega arith)) (c (suc t) (omega arith)) j)
+      (λ index. get_or ((rule_at setting.handed index).replies (asks_same (suc t) h c j)) t 0))
 
 received_same : (setting : Setting) (O P : ℕ → ℕ → ℕ) (V W : ℕ → ℕ → List ℕ) (i : ℕ) (l : Link) (last : ℕ) → ((u : ℕ) → u ≤ last → shipped setting O V i l u ≡ shipped setting P W i l u) → (t : ℕ) → t ≤ last → received setting O V i l t ≡ received setting P W i l t
 received_same setting O P V W i l last h zero le = refl
@@ -100,12 +116,16 @@ module _ (setting : Setting) (t : ℕ) where
   orders_meet i lt =
       first_at (length setting.network.nodes) i lt
       ∙ orders_same setting (orders_at (record { orders = first i; served = [] } ∷ table setting t) (suc t)) (orders_of_run setting) i t
-      (ap (λ (p : Period). get_or p.orders i 0) (past setting (record { orders = first i; served = [] }) t t (omega arith)))
-      (claims_same setting (orders_at (record { orders = first i; served = [] } ∷ table setting t) (suc t)) (orders_of_run setting) i (suc t) i known)
+      (λ u less. ap (λ (p : Period). get_or p.orders i 0) (past setting (record { orders = first i; served = [] }) u t (omega arith)))
+      (λ u le. claims_same setting (orders_at (record { orders = first i; served = [] } ∷ table setting t) (suc t)) (orders_of_run setting) i u i
+      (λ m less k. known m less (before k u) (cases_lt t (before k u)) (let a = before_le k u in omega arith)))
     where
-      known : (m : ℕ) → m < i → (k : ℕ) → orders_at (record { orders = first i; served = [] } ∷ table setting t) (suc t) m (before k (suc t)) ≡ orders_of_run setting m (before k (suc t))
-      known m less zero = ap (λ (p : Period). get_or p.orders m 0) (now setting (record { orders = first i; served = [] }) t) ∙ first_at i m less ∙ sym (first_at (length setting.network.nodes) m (omega arith))
-      known m less (suc k) = ap (λ (p : Period). get_or p.orders m 0) (past setting (record { orders = first i; served = [] }) (before k t) t (before_le k t))
+      known : (m : ℕ) → m < i → (u : ℕ) → (t < u) ⊎ (u ≤ t) → u ≤ suc t → orders_at (record { orders = first i; served = [] } ∷ table setting t) (suc t) m u ≡ orders_of_run setting m u
+      known m less u (inr old) le = ap (λ (p : Period). get_or p.orders m 0) (past setting (record { orders = first i; served = [] }) u t old)
+      known m less u (inl new) le =
+          let same : suc t ≡ u = omega arith in
+          subst (λ v. orders_at (record { orders = first i; served = [] } ∷ table setting t) (suc t) m v ≡ orders_of_run setting m v) same
+          (ap (λ (p : Period). get_or p.orders m 0) (now setting (record { orders = first i; served = [] }) t) ∙ first_at i m less ∙ sym (first_at (length setting.network.nodes) m (omega arith)))
 
   abbrev whole : List ℕ
   whole = first (length setting.network.nodes)

@@ -5,12 +5,10 @@ use Rattle.std.proofs.lemmas.Bool.{eqb-true, eq-eqb, ltb-true}
 use Rattle.decision_model.specs.declared.network.Network.{Network}
 use Rattle.decision_model.specs.declared.network.NodeSpec.{NodeSpec}
 use Rattle.decision_model.specs.declared.network.Link.{Link}
-use Rattle.decision_model.specs.declared.network.Rule.{Rule}
-use Rattle.decision_model.specs.declared.network.Rule.TheVariants.{Base, MinMax, Lot, Echelon, House}
-use Rattle.decision_model.specs.Nodes.{node_at, no_node, is_from, is_echelon, peak_of, top_of}
+use Rattle.decision_model.specs.Nodes.{node_at, is_from, top_of}
 use Rattle.decision_model.specs.Shape.{is_later, is_none_from, are_distinct, misshapen_node}
-use Rattle.decision_model.specs.Load.{claimed, reaching, order_most, orders_most, order_limit, need_most, echelon_sum, own_load}
-use Rattle.decision_model.specs.Network.{is_simulated_rule, is_simulated_demand, is_simulated_node, is_simulated, IsValidNetwork}
+use Rattle.decision_model.specs.Load.{claimed, reaching, orders_most, order_limit}
+use Rattle.decision_model.specs.Network.{IsValidNetwork}
 use Rattle.decision_model.specs.NetworkFacts.{shaped_at, IsShapedNode, parts_shaped, light_at}
 use Rattle.node_state.specs.Holdings.{total}
 use Rattle.node_state.specs.Totals.{before, claims_of, claims_upto, IsSource, IsShaped, IsLoaded}
@@ -125,19 +123,9 @@ reaching_is net k (suc m) =
     ap (λ j. claimed k (order_limit net m) (node_at net.nodes j).sources) (length-most net m) ∙ claimed_is k (order_limit net m) (node_at net.nodes m).sources in
     omega (arith, more, here, reaching_is net k m, total-append (claims_upto net.nodes (λ j t. order_limit net j) k 0 m) (claims_of (λ t. order_limit net m) k 0 (node_at net.nodes m).sources))
 
-limit_of : (rule : Rule) (periods lost below : ℕ) → is_simulated_rule rule ≡ true → order_most rule periods lost below ≡ peak_of rule + cond (is_echelon rule) below lost
-limit_of (Base level) periods lost below is = omega arith
-limit_of (MinMax low high) periods lost below is = omega arith
-limit_of (Lot reorder lot) periods lost below is = omega arith
-limit_of (Echelon level) periods lost below is = omega arith
-limit_of (House index cap) periods lost below is = cc
-
-pub rule_simulated : (net : Network) → is_simulated net ≡ true → (i : ℕ) → i < length net.nodes → is_simulated_rule (node_at net.nodes i).rule ≡ true
-rule_simulated net simulated i lt = (both (is_simulated_rule (node_at net.nodes i).rule) (is_simulated_demand (node_at net.nodes i).demand) (at_each is_simulated_node net.nodes simulated i no_node lt)).0
-
 pub loaded : (net : Network) → IsValidNetwork net → IsLoaded net
 loaded net valid = record {
   need_is = λ i lt. ap (λ n. net.periods * top_of (node_at net.nodes i).demand + n) (reaching_is net i i);
-  limit_is = λ i lt. limit_of (node_at net.nodes i).rule net.periods (need_most net i + (node_at net.nodes i).initial) (echelon_sum net.nodes i (own_load net) (suc i)) (rule_simulated net valid.simulated i lt);
+  limit_is = λ i lt. refl;
   light = λ i lt. light_at net valid.light i lt;
 }

@@ -1,7 +1,10 @@
 //! The simulator of a network: all nodes, period by period.
 #![tactic(auto)]
 
+mod draws;
 mod echelons;
+mod errors;
+mod house;
 mod laws;
 mod links;
 mod orders;
@@ -17,6 +20,7 @@ mod supply;
 mod tests;
 mod wiring;
 
+pub use errors::{RuleOver, SimErr};
 pub use laws::totals_balance;
 pub use rows::{NodeLine, Row};
 pub use sim::Sim;

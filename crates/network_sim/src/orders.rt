@@ -1,14 +1,16 @@
 // The first pass of a period: all nodes in listed order see what comes to them, and order.
-ghost use Rattle.std.specs.Prelude.{◌≡◌, ℕ, ◌+◌, ◌*◌, ◌^◌, ◌<◌, ◌≤◌, All, true, length, slice_set, slice_index, slice_index_or, ℤ};
+ghost use Rattle.std.specs.Prelude.{◌≡◌, ℕ, ◌+◌, ◌*◌, ◌^◌, ◌<◌, ◌≤◌, All, true, length, map, cond, slice_set, slice_index, slice_index_or, ℤ, Some, None, OnOk, IfOk, IfErr};
 ghost use Rattle.std.specs.Int.RustNames.{unsigned_abs};
 ghost use Rattle.decision_model.specs.Nodes.{is_echelon};
 ghost use Rattle.node_state.specs.Holdings.{no_holding, no_leg, begun, with_claims, placed, total};
-ghost use Rattle.node_state.specs.Orders.{order_of};
-ghost use Rattle.network_sim.specs.Machine.{node as node_at, front, fronts, AreCallers, ordered_node, CanOrder, after_orders, no_station, order_at, callers_at, flag_at, sum_at, position_of, IsInReach, station as station_at};
+ghost use Rattle.network_sim.specs.Machine.{node as node_at, front, fronts, AreCallers, noted_node, ordered_node, CanOrder, order_with, order_at, ask_of, callers_at, flag_at, sum_at, position_of, IsInReach, station as station_at};
+ghost use Rattle.network_sim.specs.Asks.{Pass, ordered_in, over_with, IsAsked, HasRule, HaveRules, HavePassed, IsCut};
 
+use crate::errors::RuleOver;
+use crate::house::ask_rule;
 use crate::links::Caller;
 use crate::station::Station;
-use node_state::Node;
+use node_state::{HouseRule, Node};
 
 /// The order that reaches a node now.
 fn front_of(nodes: &[Node], caller: &Caller) -> u64
@@ -62,16 +64,53 @@ fn position(node: &Node, station: &Station, demanded: &[u64]) -> i64
     (station.initial + node.ordered()) as i64 - gone as i64
 }
 
-/// The order of a node that has seen what comes to it.
-fn order_by(node: &Node, station: &Station, demanded: &[u64]) -> u64
+/// What node `i` orders once it has seen what comes to it. A rule of the caller's own is asked; an answer above its cap is
+/// no order.
+fn order_by(
+    node: &Node,
+    i: usize,
+    station: &Station,
+    demanded: &[u64],
+    rules: &mut [Box<dyn HouseRule>],
+    caps: &[u64],
+) -> Result<u64, RuleOver>
     requires reach { IsInReach station.now demanded.now }
     requires ordered { node.now.ordered ≤ 10 ^ 12 }
-    ensures { result ≡ order_of station.now.rule (position_of station.now demanded.now node.now) }
+    requires seen { node.now.seen ≤ 10 ^ 12 }
+    requires place { i < 64 }
+    requires caps { length caps.now ≡ length rules.old }
+    requires rule { HasRule (length rules.old) caps.now station.now.rule }
+    ensures order { IfOk result (λ order. order ≡ order_with station.now demanded.now (map (λ b. (⟦<dyn HouseRule as HouseRule>⟧ b.vtable).meaning b.value) rules.old) node.now) }
+    ensures within { OnOk result (over_with i station.now.rule (map (λ b. (⟦<dyn HouseRule as HouseRule>⟧ b.vtable).meaning b.value) rules.old) (ask_of station.now demanded.now node.now) caps.now ≡ None) }
+    ensures over { IfErr result (λ over. over_with i station.now.rule (map (λ b. (⟦<dyn HouseRule as HouseRule>⟧ b.vtable).meaning b.value) rules.old) (ask_of station.now demanded.now node.now) caps.now ≡ Some over) }
+    ensures asked { IsAsked station.now.rule (map (λ b. (⟦<dyn HouseRule as HouseRule>⟧ b.vtable).meaning b.value) rules.old) (map (λ b. (⟦<dyn HouseRule as HouseRule>⟧ b.vtable).meaning b.value) rules.new) (ask_of station.now demanded.now node.now) }
 {
-    station.rule.order(position(node, station, demanded))
+    let position = position(node, station, demanded);
+    let Some(index) = station.rule.house() else {
+        return Ok(station.rule.order(position));
+    };
+    let index = index as usize;
+    let answer = ask_rule(rules, index, position, node.seen());
+    let cap = caps[index];
+    if answer > cap {
+        return Err(RuleOver {
+            node: i as u32 + 1,
+            answer,
+            cap,
+        });
+    }
+    Ok(answer)
 }
 
-/// Node `i` sees its customers' demand and the orders that reach it, and orders.
+// Nothing in a pause.
+fn unless(paused: bool, order: u64) -> u64
+    ensures { result ≡ cond paused 0 order }
+{
+    if paused { 0 } else { order }
+}
+
+/// Node `i` sees its customers' demand and the orders that reach it, and orders. In a pause of its orders its rule is asked
+/// all the same.
 fn order_node(
     nodes: &mut [Node],
     i: usize,
@@ -79,39 +118,60 @@ fn order_node(
     demanded: &[u64],
     demand: u32,
     paused: bool,
-)
-    requires room { CanOrder (λ h. order_of station.now.rule (position_of station.now demanded.now h)) nodes.old i station.now.callers demand paused }
+    rules: &mut [Box<dyn HouseRule>],
+    caps: &[u64],
+) -> Result<(), RuleOver>
+    requires room { CanOrder (order_with station.now demanded.now (map (λ b. (⟦<dyn HouseRule as HouseRule>⟧ b.vtable).meaning b.value) rules.old)) nodes.old i station.now.callers demand paused }
     requires reach { IsInReach station.now demanded.now }
-    ensures { nodes.new ≡ slice_set nodes.old i (ordered_node (λ h. order_of station.now.rule (position_of station.now demanded.now h)) nodes.old i station.now.callers demand paused) }
+    requires place { i < 64 }
+    requires caps { length caps.now ≡ length rules.old }
+    requires rule { HasRule (length rules.old) caps.now station.now.rule }
+    ensures done { OnOk result (nodes.new ≡ slice_set nodes.old i (ordered_node (order_with station.now demanded.now (map (λ b. (⟦<dyn HouseRule as HouseRule>⟧ b.vtable).meaning b.value) rules.old)) nodes.old i station.now.callers demand paused)) }
+    ensures within { OnOk result (over_with i station.now.rule (map (λ b. (⟦<dyn HouseRule as HouseRule>⟧ b.vtable).meaning b.value) rules.old) (ask_of station.now demanded.now (noted_node nodes.old i station.now.callers demand)) caps.now ≡ None) }
+    ensures over { IfErr result (λ over. over_with i station.now.rule (map (λ b. (⟦<dyn HouseRule as HouseRule>⟧ b.vtable).meaning b.value) rules.old) (ask_of station.now demanded.now (noted_node nodes.old i station.now.callers demand)) caps.now ≡ Some over) }
+    ensures asked { IsAsked station.now.rule (map (λ b. (⟦<dyn HouseRule as HouseRule>⟧ b.vtable).meaning b.value) rules.old) (map (λ b. (⟦<dyn HouseRule as HouseRule>⟧ b.vtable).meaning b.value) rules.new) (ask_of station.now demanded.now (noted_node nodes.old i station.now.callers demand)) }
 {
     let node = &mut nodes[i];
     node.begin(demand);
     gather(nodes, i, station.callers.as_slice());
     let node = &mut nodes[i];
-    if paused {
-        node.place(0);
-        return;
-    }
-    let order = order_by(node, station, demanded);
-    node.place(order);
+    let order = order_by(node, i, station, demanded, rules, caps)?;
+    node.place(unless(paused, order));
+    Ok(())
 }
 
-/// All nodes in listed order see what comes to them, and order.
+/// All nodes in listed order see what comes to them, and order. The first answer of a rule that passes its cap ends it.
 pub fn order_pass(
     nodes: &mut [Node],
     stations: &[Station],
     demanded: &[u64],
     demands: &[u32],
     paused: &[bool],
-)
+    rules: &mut [Box<dyn HouseRule>],
+    caps: &[u64],
+) -> Result<(), RuleOver>
     requires stations { length stations.now ≡ length nodes.old }
     requires demands { length demands.now ≡ length nodes.old }
     requires paused { length paused.now ≡ length nodes.old }
+    requires few { length nodes.old ≤ 64 }
     requires reach { (i : ℕ) → i < length nodes.old → IsInReach (station_at stations.now i) demanded.now }
-    requires room { (i : ℕ) → i < length nodes.old → CanOrder (order_at stations.now demanded.now i) (after_orders (order_at stations.now demanded.now) (callers_at stations.now) (slice_index demands.now) (flag_at paused.now) nodes.old i) i (callers_at stations.now i) (slice_index demands.now i) (flag_at paused.now i) }
-    ensures { nodes.new ≡ after_orders (order_at stations.now demanded.now) (callers_at stations.now) (slice_index demands.now) (flag_at paused.now) nodes.old (length nodes.old) }
+    requires rules { HaveRules (record { nodes = nodes.old; stations = stations.now; demanded = demanded.now; demands = demands.now; paused = paused.now; handed = (map (λ b. (⟦<dyn HouseRule as HouseRule>⟧ b.vtable).meaning b.value) rules.old); caps = caps.now }) (length nodes.old) }
+    requires room { (i : ℕ) → i < length nodes.old → CanOrder (order_at stations.now demanded.now (map (λ b. (⟦<dyn HouseRule as HouseRule>⟧ b.vtable).meaning b.value) rules.old) i) (ordered_in (record { nodes = nodes.old; stations = stations.now; demanded = demanded.now; demands = demands.now; paused = paused.now; handed = (map (λ b. (⟦<dyn HouseRule as HouseRule>⟧ b.vtable).meaning b.value) rules.old); caps = caps.now }) i) i (callers_at stations.now i) (slice_index demands.now i) (flag_at paused.now i) }
+    ensures kept { length rules.new ≡ length rules.old }
+    ensures done { OnOk result (HavePassed (record { nodes = nodes.old; stations = stations.now; demanded = demanded.now; demands = demands.now; paused = paused.now; handed = (map (λ b. (⟦<dyn HouseRule as HouseRule>⟧ b.vtable).meaning b.value) rules.old); caps = caps.now }) (length nodes.old) (length nodes.old) nodes.new (map (λ b. (⟦<dyn HouseRule as HouseRule>⟧ b.vtable).meaning b.value) rules.new)) }
+    ensures over { IfErr result (λ over. IsCut (record { nodes = nodes.old; stations = stations.now; demanded = demanded.now; demands = demands.now; paused = paused.now; handed = (map (λ b. (⟦<dyn HouseRule as HouseRule>⟧ b.vtable).meaning b.value) rules.old); caps = caps.now }) (length nodes.old) over (map (λ b. (⟦<dyn HouseRule as HouseRule>⟧ b.vtable).meaning b.value) rules.new)) }
 {
     for i in 0..nodes.len() {
-        order_node(nodes, i, &stations[i], demanded, demands[i], paused[i]);
+        order_node(
+            nodes,
+            i,
+            &stations[i],
+            demanded,
+            demands[i],
+            paused[i],
+            rules,
+            caps,
+        )?;
     }
+    Ok(())
 }

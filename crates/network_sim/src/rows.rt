@@ -148,24 +148,3 @@ pub fn sum_costs(lines: &[NodeLine]) -> u128
     }
     sum
 }
-
-/// The demand of period `t`, counted from 0, where the instance says so.
-fn traced(station: &Station, t: usize) -> u32
-    ensures { result ≡ slice_index station.now.trace t }
-{
-    match station.trace.as_slice().get(t) {
-        Some(units) => *units,
-        None => 0,
-    }
-}
-
-/// Notes the demands of period `t`, counted from 0, by the stations' traces.
-pub fn draw_demands(stations: &[Station], t: usize, demands: &mut [u32])
-    requires { length demands.old ≡ length stations.now }
-    ensures all { length demands.new ≡ length demands.old }
-    ensures each { (k : ℕ) → k < length stations.now → slice_index demands.new k ≡ slice_index (station_at stations.now k).trace t }
-{
-    for i in 0..stations.len() {
-        demands[i] = traced(&stations[i], t);
-    }
-}

@@ -1,10 +1,13 @@
 // What a simulator holds, and how a period changes it.
-ghost use Rattle.std.specs.Prelude.{◌≡◌, ℕ, suc, ◌-◌, ◌<◌, ◌≤◌, IfOk, length};
+ghost use Rattle.std.specs.Prelude.{◌≡◌, ℕ, suc, ◌-◌, ◌<◌, ◌≤◌, List, IfOk, length, map, None, OnOk, OnErr, IfErr};
 ghost use Rattle.decision_model.specs.Network.{IsValidNetwork};
 ghost use Rattle.node_state.specs.Totals.{Setting};
 ghost use Rattle.node_state.specs.Table.{row as row_of};
-ghost use Rattle.network_sim.specs.Simulated.{IsStateAfter, CanAdvance, AreDemands};
+ghost use Rattle.node_state.specs.Handed.{Handed};
+ghost use Rattle.network_sim.specs.Houses.{period_over, HaveAnswered};
+ghost use Rattle.network_sim.specs.Simulated.{IsStateAfter, CanAdvance, AreDemands, AreFit, IsCutShort};
 
+use crate::errors::RuleOver;
 use crate::pauses::Paused;
 use crate::period::run_period;
 use crate::rows::{Row, add_demands, note_ordered, sum_costs, write_lines};
@@ -14,7 +17,7 @@ use crate::wiring::wire;
 use decision_model::Network;
 use disruption::Calendar;
 use fraction128::Memory;
-use node_state::Node;
+use node_state::{HouseRule, Node};
 use std::alloc::Global;
 
 /// What a simulator holds.
@@ -39,7 +42,7 @@ impl State {
     /// The state before the first period.
     pub fn new(alloc: Global, network: &Network) -> Result<State, Memory>
         requires { IsValidNetwork network.now }
-        ensures { IfOk result (λ state. (demand : ℕ → ℕ → ℕ) → IsStateAfter (record { network = network.now; demand = demand }) 0 state) }
+        ensures { IfOk result (λ state. (demand : ℕ → ℕ → ℕ) (handed : List Handed) → IsStateAfter (record { network = network.now; demand = demand; handed = handed }) 0 state) }
     {
         let count = network.nodes.as_slice().len();
         let Ok(wiring) = wire(alloc, network) else {
@@ -74,11 +77,26 @@ impl State {
         })
     }
 
-    /// Runs the next period with these demands, one a node, and writes its row.
-    pub fn advance(&mut self, demands: &[u32], row: &mut Row)
-        requires { CanAdvance self.old demands.now row.old.lines.items }
-        ensures stands { (s : Setting) (n : ℕ) → IsStateAfter s n self.old → suc n ≤ s.network.periods → AreDemands s (suc n) demands.now → IsStateAfter s (suc n) self.new }
-        ensures row { (s : Setting) (n : ℕ) → IsStateAfter s n self.old → suc n ≤ s.network.periods → AreDemands s (suc n) demands.now → row.new.lines.items ≡ row_of s n }
+    /// Runs the next period with these demands, one a node, and writes its row. The first answer of a rule that passes its
+    /// cap ends it; then the row stays as it was.
+    pub fn advance(
+        &mut self,
+        demands: &[u32],
+        rules: &mut [Box<dyn HouseRule>],
+        caps: &[u64],
+        row: &mut Row,
+    ) -> Result<(), RuleOver>
+        requires { CanAdvance self.old demands.now row.old.lines.items (map (λ b. (⟦<dyn HouseRule as HouseRule>⟧ b.vtable).meaning b.value) rules.old) caps.now }
+        ensures stands { (s : Setting) (n : ℕ) → IsStateAfter s n self.old → AreFit s n (map (λ b. (⟦<dyn HouseRule as HouseRule>⟧ b.vtable).meaning b.value) rules.old) caps.now → suc n ≤ s.network.periods → AreDemands s (suc n) demands.now → OnOk result (IsStateAfter s (suc n) self.new) }
+        ensures row { (s : Setting) (n : ℕ) → IsStateAfter s n self.old → AreFit s n (map (λ b. (⟦<dyn HouseRule as HouseRule>⟧ b.vtable).meaning b.value) rules.old) caps.now → suc n ≤ s.network.periods → AreDemands s (suc n) demands.now → OnOk result (row.new.lines.items ≡ row_of s n) }
+        ensures within { (s : Setting) (n : ℕ) → IsStateAfter s n self.old → AreFit s n (map (λ b. (⟦<dyn HouseRule as HouseRule>⟧ b.vtable).meaning b.value) rules.old) caps.now → suc n ≤ s.network.periods → AreDemands s (suc n) demands.now → OnOk result (period_over s n ≡ None) }
+        ensures answered { (s : Setting) (n : ℕ) → IsStateAfter s n self.old → AreFit s n (map (λ b. (⟦<dyn HouseRule as HouseRule>⟧ b.vtable).meaning b.value) rules.old) caps.now → suc n ≤ s.network.periods → AreDemands s (suc n) demands.now → OnOk result (HaveAnswered s (suc n) 0 (map (λ b. (⟦<dyn HouseRule as HouseRule>⟧ b.vtable).meaning b.value) rules.new)) }
+        ensures over { (s : Setting) (n : ℕ) → IsStateAfter s n self.old → AreFit s n (map (λ b. (⟦<dyn HouseRule as HouseRule>⟧ b.vtable).meaning b.value) rules.old) caps.now → suc n ≤ s.network.periods → AreDemands s (suc n) demands.now → IfErr result (λ over. IsCutShort s n over (map (λ b. (⟦<dyn HouseRule as HouseRule>⟧ b.vtable).meaning b.value) rules.new)) }
+        ensures rules { length rules.new ≡ length rules.old }
+        ensures periods { OnErr result (self.new.periods ≡ self.old.periods) }
+        ensures played { OnErr result (self.new.played ≡ self.old.played) }
+        ensures total { OnErr result (self.new.total ≡ self.old.total) }
+        ensures kept { OnErr result (row.new ≡ row.old) }
     {
         self.paused.note(&self.calendar, self.played + 1);
         note_ordered(&self.nodes, &mut self.ordered);
@@ -89,9 +107,12 @@ impl State {
             &self.demanded,
             demands,
             &self.paused,
-        );
+            rules,
+            caps,
+        )?;
         write_lines(&self.nodes, &self.stations, &self.ordered, &mut row.lines);
         self.total += sum_costs(&row.lines);
         self.played += 1;
+        Ok(())
     }
 }

@@ -1,6 +1,6 @@
 // What a simulator knows of a node from the start.
 use crate::links::{Callers, Suppliers};
-use decision_model::Items;
+use decision_model::{Demand, Items};
 use node_state::NodeRule;
 
 /// What a simulator knows of a node from the start.
@@ -15,6 +15,6 @@ pub struct Station {
     /// The initial stock of the node and of all nodes below it, and the places of these nodes.
     pub initial: u64,
     pub below: Items<usize>,
-    /// What customers demand, period by period, where the instance says so.
-    pub trace: Items<u32>,
+    /// What customers demand.
+    pub demand: Demand,
 }

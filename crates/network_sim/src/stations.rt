@@ -1,9 +1,8 @@
 // Finds what a simulator knows of each node, and makes the nodes.
-ghost use Rattle.std.specs.Prelude.{◌≡◌, ℕ, suc, ◌<◌, ◌≤◌, IfOk, length, map, slice_index, slice_index_or};
+ghost use Rattle.std.specs.Prelude.{◌≡◌, ℕ, suc, ◌<◌, ◌≤◌, IfOk, length, map};
 ghost use Rattle.decision_model.specs.Network.{IsValidNetwork};
 ghost use Rattle.decision_model.specs.Nodes.{node_at};
 ghost use Rattle.node_state.specs.Holdings.{new_holding, legs_of};
-ghost use Rattle.node_state.specs.Table.{demand_of};
 ghost use Rattle.network_sim.specs.Machine.{node as holding_at, station as station_at, AreCallersOf};
 ghost use Rattle.network_sim.specs.Supply.{AreSuppliersOf};
 ghost use Rattle.network_sim.specs.Simulated.{IsStationOf, AreStationsOf};
@@ -13,33 +12,13 @@ use crate::echelons::echelon_of;
 use crate::links::{Callers, Suppliers};
 use crate::station::Station;
 use crate::wiring::Wiring;
-use decision_model::{Demand, Items, Network};
+use decision_model::{Items, Network};
 use fraction128::Memory;
 use node_state::{Node, NodeRule};
 use std::alloc::{AllocError, Global};
 use std::mem;
 
-fn copied(alloc: Global, units: &[u32]) -> Result<Items<u32>, AllocError>
-    ensures { IfOk result (λ copy. copy ≡ units.now) }
-{
-    let mut copies = Vec::new(alloc);
-    for unit in units {
-        copies.push(*unit)?;
-    }
-    Ok(Items::new(copies))
-}
-
-/// What customers demand, period by period, where the instance says so.
-fn trace_of(alloc: Global, demand: &Demand) -> Result<Items<u32>, AllocError>
-    ensures { IfOk result (λ trace. (t : ℕ) → slice_index trace t ≡ demand_of demand.now (suc t)) }
-{
-    match demand {
-        Demand::Nobody => Ok(Items::new(Vec::new(alloc))),
-        Demand::Drawn(_) => Ok(Items::new(Vec::new(alloc))),
-        Demand::Trace(units) => copied(alloc, units.as_slice()),
-    }
-}
-
+// What a simulator knows of the node at a place.
 fn station_of(
     alloc: Global,
     network: &Network,
@@ -55,7 +34,9 @@ fn station_of(
 {
     let node = &network.nodes.as_slice()[place];
     let echelon = echelon_of(alloc, network, place)?;
-    let trace = trace_of(alloc, &node.demand)?;
+    let Ok(demand) = node.demand.copy(alloc) else {
+        return Err(AllocError);
+    };
     Ok(Station {
         rule: NodeRule::of_rule(&node.rule),
         holding: node.holding,
@@ -64,7 +45,7 @@ fn station_of(
         suppliers,
         initial: echelon.initial,
         below: echelon.places,
-        trace,
+        demand,
     })
 }
 

@@ -1,3 +1,5 @@
+pub mod Draws
+pub mod Handed
 pub mod Orders
 pub mod Peaks
 pub mod Holdings

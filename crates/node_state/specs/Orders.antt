@@ -1,5 +1,5 @@
 -- Order rules, as functions of the position.
-use Rattle.std.specs.Prelude.{ℕ, ◌+◌, ◌*◌, ◌/◌, ℤ, ◌-ℤ◌, int_le, cond}
+use Rattle.std.specs.Prelude.{ℕ, ◌+◌, ◌*◌, ◌/◌, ℤ, ◌-ℤ◌, int_le, cond, Option, Some, None}
 use Rattle.decision_model.specs.declared.network.Rule.{Rule}
 use Rattle.decision_model.specs.declared.network.Rule.TheVariants.{Base, MinMax, Lot, Echelon, House}
 use Rattle.decision_model.specs.Positions.{above_zero}
@@ -23,3 +23,11 @@ order_of (MinMax low high) p = min_max_order low high p
 order_of (Lot reorder lot) p = lot_order reorder lot p
 order_of (Echelon level) p = base_order level p
 order_of (House index cap) p = 0
+
+-- the index of a rule of the caller's own
+abbrev pub house_of : Rule → Option ℕ
+house_of (Base level) = None
+house_of (MinMax low high) = None
+house_of (Lot reorder lot) = None
+house_of (Echelon level) = None
+house_of (House index cap) = Some index

@@ -5,9 +5,8 @@ use Rattle.node_state.specs.Holdings.{zeros}
 use Rattle.node_state.specs.Totals.{Setting, Line, orders_next, served_next, all_claims, line}
 use Rattle.decision_model.specs.declared.network.Network.{Network}
 use Rattle.decision_model.specs.declared.network.NodeSpec.{NodeSpec}
-use Rattle.decision_model.specs.declared.network.Demand.{Demand}
-use Rattle.decision_model.specs.declared.network.Demand.TheVariants.{Nobody, Trace, Drawn}
-use Rattle.decision_model.specs.Nodes.{node_at}
+use Rattle.node_state.specs.Draws.{own_demand}
+use Rattle.node_state.specs.Handed.{Handed}
 
 -- totals of all nodes at one period
 pub record Period : Type 0 where
@@ -84,20 +83,13 @@ abbrev pub total_cost : Setting → ℕ → ℕ
 total_cost setting zero = 0
 total_cost setting (suc n) = total_cost setting n + costs (row setting n)
 
--- ---- a network alone: its customers demand what it says
--- the demand of a period, from 1
-abbrev pub demand_of : Demand → ℕ → ℕ
-demand_of Nobody t = 0
-demand_of (Trace ds) zero = 0
-demand_of (Trace ds) (suc t) = get_or ds t 0
-demand_of (Drawn law) t = 0
-
-abbrev pub setting_of : Network → Setting
-setting_of net = record { network = net; demand = λ i t. demand_of (node_at net.nodes i).demand t }
+-- ---- a network alone: its customers demand what it states or what is drawn
+abbrev pub setting_of : Network → List Handed → Setting
+setting_of net handed = record { network = net; demand = own_demand net; handed = handed }
 
 -- the row of period suc t, and the costs of the first n periods
-abbrev pub network_row : Network → ℕ → List Line
-network_row net t = row (setting_of net) t
+abbrev pub network_row : Network → List Handed → ℕ → List Line
+network_row net handed t = row (setting_of net handed) t
 
-abbrev pub network_total : Network → ℕ → ℕ
-network_total net n = total_cost (setting_of net) n
+abbrev pub network_total : Network → List Handed → ℕ → ℕ
+network_total net handed n = total_cost (setting_of net handed) n

@@ -5,16 +5,20 @@ use Rattle.decision_model.specs.declared.network.Network.{Network}
 use Rattle.decision_model.specs.declared.network.NodeSpec.{NodeSpec}
 use Rattle.decision_model.specs.declared.network.Link.{Link}
 use Rattle.decision_model.specs.declared.network.Pause.TheVariants.{Orders, Shipments, Receipts}
-use Rattle.decision_model.specs.Nodes.{node_at, is_from, is_echelon, peak_of, top_of}
+use Rattle.decision_model.specs.declared.network.Rule.{Rule}
+use Rattle.decision_model.specs.declared.network.Rule.TheVariants.{Base, MinMax, Lot, Echelon, House}
+use Rattle.decision_model.specs.Nodes.{node_at, is_from, is_echelon, top_of}
 use Rattle.decision_model.specs.Pauses.{is_paused}
-use Rattle.decision_model.specs.Load.{echelon_sum, own_load, need_most, order_limit}
+use Rattle.decision_model.specs.Load.{echelon_sum, own_load, need_most, order_limit, order_most}
 use Rattle.node_state.specs.Holdings.{total, zeros}
+use Rattle.node_state.specs.Handed.{Ask, Handed, rule_at}
 use Rattle.node_state.specs.Orders.{order_of}
 
--- a network, and what the customers of each node demand in each period
+-- a network, what the customers of each node demand in each period, and the rules that the caller hands in
 pub record Setting : Type 0 where
   pub network : Network
   pub demand : ℕ → ℕ → ℕ
+  pub handed : List Handed
 
 abbrev pub spec_at : Setting → ℕ → NodeSpec
 spec_at setting i = node_at setting.network.nodes i
@@ -65,8 +69,30 @@ position setting O i t = cond (is_echelon (spec_at setting i).rule)
 abbrev pub orders_paused : Setting → ℕ → ℕ → Bool
 orders_paused setting i t = is_paused setting.network.pauses Orders i t
 
+-- what a rule of the caller's own is asked at node i in period suc t
+abbrev pub ask : Setting → (ℕ → ℕ → ℕ) → ℕ → ℕ → Ask
+ask setting O i t = record { position = position setting O i t; seen = seen setting O i (suc t) - seen setting O i t }
+
+-- its asks up to period t: one a period, also where the node's orders pause
+abbrev pub asks : Setting → (ℕ → ℕ → ℕ) → ℕ → ℕ → List Ask
+asks setting O i zero = []
+asks setting O i (suc t) = asks setting O i t ++ ask setting O i t ∷ []
+
+-- the answer in period suc t of the rule at this index
+abbrev pub answer : Setting → (ℕ → ℕ → ℕ) → ℕ → ℕ → ℕ → ℕ
+answer setting O i index t = get_or ((rule_at setting.handed index).replies (asks setting O i (suc t))) t 0
+
+-- what a rule orders at a position, where a rule of the caller's own gives this answer; one above the node's cap ends the run and is never ordered
+abbrev pub order_by : Rule → ℤ → (ℕ → ℕ) → ℕ
+order_by (Base level) p given = order_of (Base level) p
+order_by (MinMax low high) p given = order_of (MinMax low high) p
+order_by (Lot reorder lot) p given = order_of (Lot reorder lot) p
+order_by (Echelon level) p given = order_of (Echelon level) p
+order_by (House index cap) p given = min (given index) cap
+
 abbrev pub orders_next : Setting → (ℕ → ℕ → ℕ) → ℕ → ℕ → ℕ
-orders_next setting O i t = O i t + cond (orders_paused setting i (suc t)) 0 (order_of (spec_at setting i).rule (position setting O i t))
+orders_next setting O i t =
+    O i t + cond (orders_paused setting i (suc t)) 0 (order_by (spec_at setting i).rule (position setting O i t) (λ index. answer setting O i index t))
 
 -- ---- units
 -- what a link's supplier has shipped on it; served totals stand customers first
@@ -164,6 +190,5 @@ pub record IsLoaded (net : Network) : Type 0 where
   pub need_is : (i : ℕ) → i < length net.nodes →
       need_most net i ≡ net.periods * top_of (node_at net.nodes i).demand + total (claims_on net.nodes (λ j t. order_limit net j) i 0)
   pub limit_is : (i : ℕ) → i < length net.nodes →
-      order_limit net i ≡ peak_of (node_at net.nodes i).rule
-      + cond (is_echelon (node_at net.nodes i).rule) (echelon_sum net.nodes i (own_load net) (suc i)) (need_most net i + (node_at net.nodes i).initial)
+      order_limit net i ≡ order_most (node_at net.nodes i).rule net.periods (need_most net i + (node_at net.nodes i).initial) (echelon_sum net.nodes i (own_load net) (suc i))
   pub light : (i : ℕ) → i < length net.nodes → (node_at net.nodes i).initial + need_most net i + order_limit net i ≤ 10 ^ 12

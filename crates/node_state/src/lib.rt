@@ -1,6 +1,7 @@
 //! One node of a network: what it holds and what is on its way to it, and the rules by which it orders.
 #![tactic(auto)]
 
+mod house;
 mod laws;
 mod leg;
 mod legs;
@@ -10,6 +11,7 @@ mod rules;
 #[cfg(test)]
 mod tests;
 
+pub use house::HouseRule;
 pub use laws::{nodes_balance, orders_stay_within_peaks};
 pub use node::Node;
 pub use rules::{

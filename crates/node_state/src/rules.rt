@@ -266,10 +266,8 @@ pub struct NodeRule {
 }
 
 impl Model for NodeRule {
-    ghost use Rattle.std.specs.Prelude.{◌≡◌, true};
     ghost use Rattle.decision_model.specs.declared.network.Rule.{Rule as RuleOf};
     ghost use Rattle.decision_model.specs.Nodes.{IsReadableRule};
-    ghost use Rattle.decision_model.specs.Network.{is_simulated_rule};
 
     ghost Value = { RuleOf };
 
@@ -277,25 +275,35 @@ impl Model for NodeRule {
 
     ghost inverse = { λ r. record { rule = r } };
 
-    ghost invariant = { λ r. IsReadableRule r.rule × (is_simulated_rule r.rule ≡ true) };
+    ghost invariant = { λ r. IsReadableRule r.rule };
 }
 
 impl NodeRule {
-    ghost use Rattle.std.specs.Prelude.{◌≡◌, true, ◌≤◌, ◌^◌};
+    ghost use Rattle.std.specs.Prelude.{◌≡◌, ◌≤◌, ◌^◌};
     ghost use Rattle.std.specs.Int.RustNames.{unsigned_abs};
     ghost use Rattle.decision_model.specs.Nodes.{IsReadableRule, peak_of, is_echelon};
-    ghost use Rattle.decision_model.specs.Network.{is_simulated_rule};
-    ghost use Rattle.node_state.specs.Orders.{order_of};
+    ghost use Rattle.node_state.specs.Orders.{order_of, house_of};
 
     pub fn of_rule(rule: &Rule) -> NodeRule
-        requires readable { IsReadableRule rule.now }
-        requires simulated { is_simulated_rule rule.now ≡ true }
+        requires { IsReadableRule rule.now }
         ensures { result ≡ rule.now }
     {
         NodeRule { rule: *rule }
     }
 
-    /// The units that are ordered at a position.
+    /// The index of the rule of the caller's own, where it is one.
+    pub fn house(&self) -> Option<u32>
+        ensures { result ≡ house_of self.now }
+    {
+        match self.rule {
+            Rule::House { index, cap: _ } => Some(index),
+            Rule::Base { .. } | Rule::MinMax { .. } | Rule::Lot { .. } | Rule::Echelon { .. } => {
+                None
+            }
+        }
+    }
+
+    /// The units that are ordered at a position; none by a rule of the caller's own.
     #[tactic(auto, using(crate::specs::Peaks::small_position))]
     pub fn order(&self, position: i64) -> u64
         requires { unsigned_abs position ≤ 10 ^ 13 }

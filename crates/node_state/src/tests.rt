@@ -137,6 +137,11 @@ fn stated_rules(rt: HostRuntime) -> Result<(), Fail> {
     let echelon = NodeRule::of_rule(&Rule::Echelon { level: 4 });
     assert_eq!(rt; echelon.order(1), 3);
     assert!(rt; echelon.is_echelon());
+    assert!(rt; echelon.house().is_none());
+    let house = NodeRule::of_rule(&Rule::House { index: 2, cap: 9 });
+    assert!(rt; house.house() == Some(2));
+    assert_eq!(rt; house.order(3), 0);
+    assert_eq!(rt; house.peak(), 0);
     Ok(())
 }
 

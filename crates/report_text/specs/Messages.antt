@@ -11,7 +11,7 @@ use Rattle.instance_json.specs.declared.fault.InstanceFault.TheVariants as insta
 use Rattle.instance_json.specs.declared.fault.InstanceErr.{InstanceErr}
 use Rattle.instance_json.specs.declared.fault.InstanceErr.TheVariants as error
 use Rattle.report_text.specs.declared.faults.Fault.{Fault}
-use Rattle.report_text.specs.declared.faults.Fault.TheVariants.{NoCommand, UnknownCommand, TooFew, TooMany, EmptyName, NoOption, BadNumber, TwoInputs, NotBuilt, MissingFile, TooLong, Instance, NotThisCommand, ReadFault, WriteFault, Memory}
+use Rattle.report_text.specs.declared.faults.Fault.TheVariants.{NoCommand, UnknownCommand, TooFew, TooMany, EmptyName, NoOption, BadNumber, TwoInputs, MissingFile, TooLong, Instance, NotThisCommand, ReadFault, WriteFault, NoRule, RuleShared, RuleCap, RuleOver, Memory}
 
 -- the fault of a text that gives no instance
 abbrev pub instance_fault : InstanceErr → Fault
@@ -40,7 +40,6 @@ law_words law.NotMultiple = codes "does not divide the total"
 abbrev pub instance_words : InstanceFault → List ℕ
 instance_words instance.NotJson = codes "not JSON"
 instance_words instance.UnknownKind = codes "unknown kind"
-instance_words instance.NotBuilt = codes "not built yet"
 instance_words (instance.Missing key) = key_words key ++ codes ": missing"
 instance_words (instance.UnknownKey key) = key_words key ++ codes ": unknown key"
 instance_words (instance.WrongType key) = key_words key ++ codes ": wrong type"
@@ -60,6 +59,10 @@ instance_words instance.Width = codes "too wide"
 abbrev pub word_words : ℕ → List ℕ → List ℕ
 word_words word wrong = codes "word " ++ decimal word ++ wrong
 
+-- what is wrong with the house rule of an index
+abbrev pub rule_words : ℕ → List ℕ → List ℕ
+rule_words index wrong = codes "house rule " ++ decimal index ++ wrong
+
 -- what the message says behind the program's name
 abbrev pub fault_words : Fault → List ℕ
 fault_words NoCommand = codes "no command"
@@ -70,13 +73,16 @@ fault_words (EmptyName word) = word_words word (codes ": empty name")
 fault_words (NoOption word) = word_words word (codes ": no option is known")
 fault_words (BadNumber word) = word_words word (codes ": not a number from 0 to 999999")
 fault_words (TwoInputs word) = word_words word (codes ": standard input is already used")
-fault_words NotBuilt = word_words 1 (codes ": not built yet")
 fault_words (MissingFile name) = codes "file not found: " ++ name
 fault_words TooLong = codes "instance longer than 1048576 bytes"
 fault_words (Instance fault) = codes "instance: " ++ instance_words fault
 fault_words (NotThisCommand kind) = codes "this command does not take kind " ++ kind_word kind
 fault_words (ReadFault name) = codes "cannot read " ++ name
 fault_words WriteFault = codes "cannot write"
+fault_words (NoRule index) = rule_words index (codes ": not given")
+fault_words (RuleShared index) = rule_words index (codes ": named twice")
+fault_words (RuleCap index) = rule_words index (codes ": its cap is larger than the stated cap")
+fault_words (RuleOver over) = codes "node " ++ decimal over.node ++ codes ": house rule answered " ++ decimal over.answer ++ codes ", its cap is " ++ decimal over.cap
 fault_words Memory = codes "out of memory"
 
 -- the whole line

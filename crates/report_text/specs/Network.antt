@@ -5,6 +5,7 @@ use Rattle.std.proofs.Common.{get_or}
 use Rattle.decision_model.specs.declared.network.Network.{Network}
 use Rattle.decision_model.specs.declared.network.NodeSpec.{NodeSpec}
 use Rattle.decision_model.specs.Nodes.{node_at}
+use Rattle.node_state.specs.Handed.{Handed}
 use Rattle.node_state.specs.Totals.{Line}
 use Rattle.node_state.specs.Table.{network_row, network_total}
 
@@ -35,11 +36,11 @@ period_lines period nodes lines = flat_map (λ place. node_line period (node_at 
 abbrev pub total_line : ℕ → List ℕ
 total_line total = field_text (codes "total ") total ++ codes "\n"
 
--- the lines of the first k periods
-abbrev pub first_periods : Network → ℕ → List ℕ
-first_periods net zero = []
-first_periods net (suc t) = first_periods net t ++ period_lines (suc t) net.nodes (network_row net t)
+-- the lines of the first k periods, with rules that the caller hands in
+abbrev pub first_periods : Network → List Handed → ℕ → List ℕ
+first_periods net handed zero = []
+first_periods net handed (suc t) = first_periods net handed t ++ period_lines (suc t) net.nodes (network_row net handed t)
 
 -- the whole table: each period's lines, and the sum of all costs
-abbrev pub table_text : Network → List ℕ
-table_text net = first_periods net net.periods ++ total_line (network_total net net.periods)
+abbrev pub table_text : Network → List Handed → List ℕ
+table_text net handed = first_periods net handed net.periods ++ total_line (network_total net handed net.periods)

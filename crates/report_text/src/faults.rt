@@ -1,12 +1,13 @@
 // The messages of refusals.
-ghost use Rattle.std.specs.Prelude.{◌≡◌, ◌++◌, OnOk, IfOk};
-ghost use Rattle.report_text.specs.Messages.{instance_fault, fault_message, fault_words, instance_words, key_words, place_words, law_words, word_words};
+ghost use Rattle.std.specs.Prelude.{◌≡◌, ◌++◌, OnOk, IfOk, decimal};
+ghost use Rattle.report_text.specs.Messages.{instance_fault, fault_message, fault_words, instance_words, key_words, place_words, law_words, word_words, rule_words};
 
-use crate::pieces::{push_both, push_numbered};
+use crate::pieces::{push_both, push_number, push_numbered};
 use decision_model::Kind;
 use demand_law::LawFault;
 use fraction128::{Memory, Text};
 use instance_json::{InstanceErr, InstanceFault, Key, KeyList};
+use network_sim::RuleOver;
 use std::alloc::Global;
 
 #[cfg(test)]
@@ -31,8 +32,6 @@ pub enum Fault {
     BadNumber(u32),
     /// The word at this place means standard input, as an earlier one does.
     TwoInputs(u32),
-    /// The command isn't built yet.
-    NotBuilt,
     /// There is no file of this name.
     MissingFile(Text),
     /// The instance has more bytes than an instance may have.
@@ -45,6 +44,14 @@ pub enum Fault {
     ReadFault(Text),
     /// The output failed.
     WriteFault,
+    /// A node has the house rule of this index, which the caller didn't hand in.
+    NoRule(u32),
+    /// Two nodes have the house rule of this index.
+    RuleShared(u32),
+    /// The cap of the house rule of this index is larger than the cap that its node states.
+    RuleCap(u32),
+    /// A house rule answered more than its cap.
+    RuleOver(RuleOver),
     /// Memory was refused.
     Memory,
 }
@@ -105,7 +112,6 @@ fn push_instance_fault(out: &mut Text, fault: &InstanceFault) -> Result<(), Memo
     match fault {
         InstanceFault::NotJson => out.push(b"not JSON"),
         InstanceFault::UnknownKind => out.push(b"unknown kind"),
-        InstanceFault::NotBuilt => out.push(b"not built yet"),
         InstanceFault::Missing(key) => push_keyed(out, key, ": missing"),
         InstanceFault::UnknownKey(key) => push_keyed(out, key, ": unknown key"),
         InstanceFault::WrongType(key) => push_keyed(out, key, ": wrong type"),
@@ -160,6 +166,30 @@ fn push_unread(out: &mut Text, name: &Text) -> Result<(), Memory>
     push_both(out, "cannot read ", name.bytes())
 }
 
+// Appends the house rule of an index and what is wrong with it.
+fn push_house_rule(out: &mut Text, index: u32, wrong: &str) -> Result<(), Memory>
+    ensures { OnOk result (out.new ≡ out.old ++ rule_words index wrong.now) }
+{
+    push_numbered(out, "house rule ", index, wrong)
+}
+
+// Appends two amounts with a word between them.
+fn push_amounts(out: &mut Text, first: u64, word: &str, second: u64) -> Result<(), Memory>
+    ensures { OnOk result (out.new ≡ out.old ++ (decimal first ++ word.now ++ decimal second)) }
+{
+    push_number(out, first)?;
+    out.push(word.as_bytes())?;
+    push_number(out, second)
+}
+
+// Appends that a house rule answered more than its cap.
+fn push_over(out: &mut Text, over: &RuleOver) -> Result<(), Memory>
+    ensures { OnOk result (out.new ≡ out.old ++ fault_words (Fault.RuleOver over.now)) }
+{
+    push_numbered(out, "node ", over.node, ": house rule answered ")?;
+    push_amounts(out, over.answer, ", its cap is ", over.cap)
+}
+
 // Appends what the message says behind the program's name.
 fn push_fault(out: &mut Text, fault: &Fault) -> Result<(), Memory>
     ensures { OnOk result (out.new ≡ out.old ++ fault_words fault.now) }
@@ -173,7 +203,6 @@ fn push_fault(out: &mut Text, fault: &Fault) -> Result<(), Memory>
         Fault::NoOption(word) => push_word(out, *word, ": no option is known"),
         Fault::BadNumber(word) => push_word(out, *word, ": not a number from 0 to 999999"),
         Fault::TwoInputs(word) => push_word(out, *word, ": standard input is already used"),
-        Fault::NotBuilt => push_word(out, 1, ": not built yet"),
         Fault::MissingFile(name) => push_missing(out, name),
         Fault::TooLong => out.push(b"instance longer than 1048576 bytes"),
         Fault::Instance(wrong) => {
@@ -183,6 +212,12 @@ fn push_fault(out: &mut Text, fault: &Fault) -> Result<(), Memory>
         Fault::NotThisCommand(kind) => push_wrong_kind(out, *kind),
         Fault::ReadFault(name) => push_unread(out, name),
         Fault::WriteFault => out.push(b"cannot write"),
+        Fault::NoRule(index) => push_house_rule(out, *index, ": not given"),
+        Fault::RuleShared(index) => push_house_rule(out, *index, ": named twice"),
+        Fault::RuleCap(index) => {
+            push_house_rule(out, *index, ": its cap is larger than the stated cap")
+        }
+        Fault::RuleOver(over) => push_over(out, over),
         Fault::Memory => out.push(b"out of memory"),
     }
 }

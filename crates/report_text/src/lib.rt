@@ -20,5 +20,6 @@ pub use faults::{Fault, fault_text};
 pub use finite::shapes_go_by_periods;
 pub use help::help_text;
 pub use network::{push_period, push_total, row_text};
-pub use reports::report;
+pub use pieces::push_number;
+pub use reports::{push_span, report};
 pub use serial::levels_go_by_periods;

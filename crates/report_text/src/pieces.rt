@@ -5,7 +5,7 @@ ghost use Rattle.std.specs.Fmt.{signed_decimal};
 use fraction128::{Memory, Text};
 use itoa::{Buffer, Integer};
 
-// Appends a number in decimal.
+/// Appends a number in decimal.
 pub fn push_number<N: Integer>(out: &mut Text, number: N) -> Result<(), Memory>
     ensures { OnOk result (out.new ≡ out.old ++ N.text number) }
 {

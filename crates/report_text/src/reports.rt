@@ -39,8 +39,8 @@ fn push_policy(out: &mut Text, instance: &Instance, cert: &Cert) -> Result<(), M
     }
 }
 
-// Appends the span of a certificate, where its cost is an average.
-fn push_span(out: &mut Text, instance: &Instance, cert: &Cert) -> Result<(), Memory>
+/// Appends the span of a certificate, where its cost is an average.
+pub fn push_span(out: &mut Text, instance: &Instance, cert: &Cert) -> Result<(), Memory>
     requires valid { IsValid instance.now }
     requires certified { Certifies instance.now cert.now }
     ensures { OnOk result (out.new ≡ out.old ++ span_lines instance.now cert.now) }

@@ -1,6 +1,10 @@
 //! `stock`: exact inventory policies from the command line.
 #![tactic(auto)]
 
+mod rules;
+
+use node_state::HouseRule;
+use rules::{StepRule, WindowRule};
 use std::io::{Error, ErrorKind};
 use std::process::ExitCode;
 use std::{env, io};
@@ -32,6 +36,16 @@ fn main(rt: HostRuntime) -> ExitCode {
             return ExitCode::from(NO_MEMORY);
         }
     }
+    let mut rules: Vec<Box<dyn HouseRule>> = Vec::new(rt.alloc());
+    let Ok(window) = Box::new(rt.alloc(), WindowRule::new()) else {
+        return ExitCode::from(NO_MEMORY);
+    };
+    let Ok(step) = Box::new(rt.alloc(), StepRule::new()) else {
+        return ExitCode::from(NO_MEMORY);
+    };
+    if rules.push(window).is_err() || rules.push(step).is_err() {
+        return ExitCode::from(NO_MEMORY);
+    }
     let mut input = RealSource::new(rt.reader());
     let mut files = RealFiles::new(&rt);
     let mut out = RealSink::new(io::writer(&rt));
@@ -43,6 +57,7 @@ fn main(rt: HostRuntime) -> ExitCode {
         &mut files,
         &mut out,
         &mut err,
+        rules,
     );
     ExitCode::from(status.code())
 }

@@ -4,13 +4,14 @@ use Rattle.std.specs.declared.alloc.Global.{Global}
 use Rattle.std.specs.Io.KnownBytes.{Appends}
 use Rattle.instance_json.specs.declared.fault.InstanceFault.{InstanceFault}
 use Rattle.instance_json.specs.declared.fault.InstanceFault.TheVariants as instance_fault
+use Rattle.node_state.specs.Handed.{Handed}
 use Rattle.report_text.specs.declared.faults.Fault.{Fault}
 use Rattle.report_text.specs.declared.faults.Fault.TheVariants as fault
 use Rattle.stock_edge.specs.Causes.{Rose, AppendsPrefix}
 use Rattle.stock_edge.specs.Known.{appends_none, prefix_none}
 use Rattle.stock_cli.specs.Causes.{Counts, RoseAt, FailsOne, IsUnread, IsRefused, IsToldOf, IsCause, IsTold, words_fault, read_fault, command_fault}
 use Rattle.stock_cli.specs.Inputs.{Origin}
-use Rattle.stock_cli.specs.Outcome.{Ending, Output, text_of, status_of_outcome}
+use Rattle.stock_cli.specs.Outcome.{Ending, Output, Planned, finished, message_of, outcome_of, text_of, status_of_outcome}
 use Rattle.stock_cli.specs.Status.{IsDecided, instance_status, status_of, word_fault}
 use Rattle.stock_cli.specs.Words.{command_of}
 use Rattle.stock_cli.specs.declared.words.Command.{Command}
@@ -27,6 +28,14 @@ given_cases f given before now old new t = by_case t.of
     by_case : (t.told ≡ f) ⊎ (t.told ≡ fault.Memory) → (given ≡ status_of f) ⊎ (given ≡ status.Memory)
     by_case (inl e) = inl (t.status_is ∙ ap status_of e)
     by_case (inr e) = inr (t.status_is ∙ ap status_of e)
+
+-- what refuses a plan refuses the run
+pub refused_finished : (unread : List ℕ → Type 0) (handed : List Handed) (plan : Planned) (f : Fault) → IsRefused unread plan f → IsRefused unread (finished handed plan) f
+refused_finished unread handed plan (fault.ReadFault name) h = h
+refused_finished unread handed plan fault.Memory h = tt
+refused_finished unread handed plan fault.WriteFault h = h
+refused_finished unread handed None f h = tt
+refused_finished unread handed (Some plan) f h = ap (outcome_of handed) h
 
 -- a run that ends with this fault has its status, and writes nothing
 ends_with : (ending : Ending) (f : Fault) (w : Option (List ℕ)) → IfSome ending (λ end. end ≡ Err f) → IfSome ending (λ end. (status_of f ≡ status_of_outcome end) × Appends w w (text_of end))
@@ -90,7 +99,8 @@ cause_of : (counts : Counts) (ending : Ending) (reads : Origin → Type 0) (give
 cause_of counts ending reads given (fault.ReadFault name) e h = h
 cause_of counts ending reads given fault.Memory e h = λ decided. absurd (subst IsDecided e decided)
 cause_of counts ending reads given fault.WriteFault e h = absurd h
-cause_of counts ending reads given f e h = λ decided. h
+cause_of counts None reads given f e h = λ decided. tt
+cause_of counts (Some end) reads given f e h = λ decided. ap message_of h
 
 pub refusal_message : (counts : Counts) (ending : Ending) (reads : Origin → Type 0) (given : Status) (f : Fault) (before now : ℕ) (old new : Option (List ℕ)) → IsRefused (IsUnread counts reads) ending f → IsToldOf f given before now old new → IsTold counts ending reads given before now old new
 refusal_message counts ending reads given f before now old new h t =
@@ -119,7 +129,7 @@ command_status (command.Simulate at) f e = absurd (cc e)
 command_status (command.Check None None) f e = let same : f ≡ fault.TwoInputs 3 = cc e in ap status_of same
 command_status (command.Check None (Some cert)) f e = absurd (cc e)
 command_status (command.Check (Some at) cert) f e = absurd (cc e)
-command_status (command.Trial number) f e = let same : f ≡ fault.NotBuilt = cc e in ap status_of same
+command_status (command.Trial number) f e = absurd (cc e)
 command_status command.Help f e = absurd (cc e)
 
 read_status : (r : Result Command WordErr) (f : Fault) → read_fault r ≡ Some f → status_of f ≡ status.Words

@@ -12,7 +12,7 @@ use Rattle.stock_edge.specs.declared.FileFault.{FileFault}
 use Rattle.stock_edge.specs.declared.FileFault.TheVariants as file
 use Rattle.stock_cli.specs.Inputs.{Content, Origin, SaysInstance, content_of, input_at, input_name}
 use Rattle.stock_cli.specs.Solvers.{IsBuilt}
-use Rattle.stock_cli.specs.Outcome.{Ending, instance_ending, question_outcome}
+use Rattle.stock_cli.specs.Outcome.{Ending, Planned, instance_ending, message_of, question_outcome}
 use Rattle.stock_cli.specs.Status.{IsDecided, status_of, word_fault}
 use Rattle.stock_cli.specs.Words.{command_of}
 use Rattle.stock_cli.specs.declared.commands.Question.{Question}
@@ -26,7 +26,6 @@ use Rattle.stock_cli.specs.declared.status.Status.TheVariants as status
 
 -- ---- faults of the words
 abbrev pub command_fault : Command → Option Fault
-command_fault (command.Trial number) = Some fault.NotBuilt
 command_fault (command.Check None None) = Some (fault.TwoInputs 3)
 command_fault _ = None
 
@@ -154,17 +153,16 @@ abbrev pub GivesNone : (List ℕ → Type 0) → Content → Fault → Type 0
 GivesNone unread content (fault.ReadFault name) = unread name
 GivesNone unread content fault.Memory = Unit {0}
 GivesNone unread content fault.WriteFault = ⊥
-GivesNone unread content f = (answer : Instance → Ending) → IfSome (instance_ending answer content) (λ end. end ≡ Err f)
+GivesNone unread content f = (answer : Instance → Planned) → IfSome (instance_ending answer content) (λ end. end ≡ Err f)
 
 -- why a question on an instance has no answer: memory was refused, or it has none for this kind
 abbrev pub HasNoAnswer : Question → Instance → Fault → Type 0
-HasNoAnswer question instance (fault.Instance f) = question_outcome question instance ≡ Err (fault.Instance f)
 HasNoAnswer question instance (fault.NotThisCommand kind) = question_outcome question instance ≡ Err (fault.NotThisCommand kind)
 HasNoAnswer question instance fault.Memory = Unit {0}
 HasNoAnswer question instance _ = ⊥
 
 -- a refusal before anything is written has its cause: an input failed, memory was refused, or it is how the run ends
-abbrev pub IsRefused : (List ℕ → Type 0) → Ending → Fault → Type 0
+abbrev pub IsRefused : {T : Type 0} → (List ℕ → Type 0) → Option (Result T Fault) → Fault → Type 0
 IsRefused unread ending (fault.ReadFault name) = unread name
 IsRefused unread ending fault.Memory = Unit {0}
 IsRefused unread ending fault.WriteFault = ⊥
@@ -181,7 +179,7 @@ pub record IsToldOf (refusal : Fault) (given : Status) (before now : ℕ) (old n
 -- the fault that a run's message tells is the cause of its status: where that is decided by the words and the inputs, it is how the run ends; a read fault is of an input that the run comes to read and whose object failed
 abbrev pub IsCause : Counts → Ending → (Origin → Type 0) → Status → Fault → Type 0
 IsCause counts ending reads given (fault.ReadFault name) = IsUnread counts reads name
-IsCause counts ending reads given f = IsDecided given → IfSome ending (λ end. end ≡ Err f)
+IsCause counts ending reads given f = IsDecided given → IfSome ending (λ end. message_of end ≡ Some f)
 
 -- what a run that isn't done puts on standard error: the message of a fault that has the run's status and is its cause; it is whole where no fault came and memory wasn't wanting
 pub record IsTold (counts : Counts) (ending : Ending) (reads : Origin → Type 0) (given : Status) (before now : ℕ) (old new : Option (List ℕ)) : Type 0 where

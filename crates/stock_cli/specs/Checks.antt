@@ -15,8 +15,7 @@ use Rattle.report_text.specs.declared.faults.Fault.{Fault}
 use Rattle.stock_edge.specs.HeldFiles.{Held, GivesHeld}
 use Rattle.stock_edge.specs.KnownFiles.{BeginsFile}
 use Rattle.stock_cli.specs.Inputs.{Content, Origin}
-use Rattle.stock_cli.specs.Outcome.{Output, rejection_text, accepted_text}
-use Rattle.stock_cli.specs.declared.status.Status.TheVariants as status
+use Rattle.stock_cli.specs.Outcome.{Output, printed, rejecting, rejection_text, accepted_text}
 
 -- the verdict is on a whole text
 abbrev pub IsFinal : Verdict → Type 0
@@ -25,8 +24,8 @@ IsFinal _ = Unit {0}
 
 -- what a check with this verdict puts on standard output, and the status with it
 abbrev pub verdict_told : Verdict → Output
-verdict_told (Rejected line rule) = record { status = status.Rejected; text = rejection_text line rule }
-verdict_told _ = record { status = status.Done; text = accepted_text }
+verdict_told (Rejected line rule) = rejecting (rejection_text line rule)
+verdict_told _ = printed accepted_text
 
 -- the content is a text, and this is the verdict on it; what is accepted names a policy than which none costs less, whoever wrote it
 pub record IsVerdictOf (instance : Instance) (verdict : Verdict) (found : Result (List ℕ) Fault) : Type 0 where

@@ -1,10 +1,13 @@
 -- What the output of a run that is done claims.
 use Rattle.std.specs.Prelude.{◌≡◌, ℕ, List, length, map, IfSome, Option, None, Result, Ok, String}
+use Rattle.std.proofs.Common.{inl, inr}
 use Rattle.std.specs.List.{range_with_len}
 use Rattle.std.specs.declared.alloc.Global.{Global}
 use Rattle.decision_model.specs.declared.instance.Instance.{Instance}
 use Rattle.decision_model.specs.declared.instance.Instance.TheVariants as variant
+use Rattle.decision_model.specs.Network.{IsValidNetwork}
 use Rattle.decision_model.specs.declared.network.Network.{Network}
+use Rattle.node_state.specs.Handed.{Handed}
 use Rattle.node_state.specs.Totals.{IsRun, line}
 use Rattle.node_state.specs.Table.{network_row, setting_of}
 use Rattle.instance_json.specs.Reads.{reads}
@@ -16,6 +19,7 @@ use Rattle.report_text.specs.Reports.{report_of}
 use Rattle.report_text.specs.declared.faults.Fault.{Fault}
 use Rattle.stock_edge.specs.HeldFiles.{Held}
 use Rattle.stock_cli.specs.Inputs.{Content, content_of, input_at}
+use Rattle.stock_cli.specs.Outcome.{Plan}
 use Rattle.stock_cli.specs.declared.commands.Question.{Question}
 use Rattle.stock_cli.specs.declared.commands.Question.TheVariants as question
 use Rattle.stock_cli.specs.declared.words.Command.{Command}
@@ -45,21 +49,27 @@ abbrev pub IsCertificate : List ℕ → Instance → Type 0
 IsCertificate text instance = NamesLeastPolicy instance (λ c. text ≡ cert_text c)
 
 -- the text is the table of the instance, a network: the lines that follow, period by period, from orders and served units that keep the network's equations
-pub record IsTable (text : List ℕ) (instance : Instance) : Type 0 where
+pub record IsTable (text : List ℕ) (handed : List Handed) (instance : Instance) : Type 0 where
   pub network : Network
   pub is : instance ≡ variant.Network network
-  pub text_is : text ≡ table_text network
+  pub text_is : text ≡ table_text network handed
   pub orders : ℕ → ℕ → ℕ
   pub served : ℕ → ℕ → List ℕ
-  pub run : IsRun (setting_of network) orders served
-  pub rows : (t : ℕ) → network_row network t ≡ map (λ i. line (setting_of network) orders served i t) (range_with_len 0 (length network.nodes))
+  pub run : IsRun (setting_of network handed) orders served
+  pub rows : (t : ℕ) → network_row network handed t ≡ map (λ i. line (setting_of network handed) orders served i t) (range_with_len 0 (length network.nodes))
 
--- what the answer to a question claims
-abbrev pub QuestionClaims : Question → List ℕ → Instance → Type 0
-QuestionClaims question.Solve text instance = IsReport text instance
-QuestionClaims question.Certify text instance = IsCertificate text instance
-QuestionClaims question.Demand text instance = Unit {0}
-QuestionClaims question.Simulate text instance = IsTable text instance
+-- the instance is this network, which is valid
+pub record IsNetwork (net : Network) (instance : Instance) : Type 0 where
+  pub is : instance ≡ variant.Network net
+  pub valid : IsValidNetwork net
+
+-- what the plan for a question claims
+abbrev pub QuestionClaims : Question → Plan → Instance → Type 0
+QuestionClaims question.Solve (inl output) instance = IsReport output.text instance
+QuestionClaims question.Certify (inl output) instance = IsCertificate output.text instance
+QuestionClaims question.Demand (inl output) instance = Unit {0}
+QuestionClaims question.Simulate (inr net) instance = IsNetwork net instance
+QuestionClaims _ _ instance = ⊥
 
 -- the content is a certificate of such a policy
 abbrev pub HoldsCertificate : Content → Instance → Type 0
@@ -69,11 +79,20 @@ HoldsCertificate content instance = IfSome content (λ told. NamesLeastPolicy in
 abbrev pub CompareClaims : Content → Content → Type 0
 CompareClaims content cert = IfSome content (λ found. OfInstance found (HoldsCertificate cert))
 
+-- what the plan of a command claims, where its inputs are told: the report, the certificate that is to be written, or the one that was checked, or the network that is to run
+abbrev pub PlanClaims : Option (List ℕ) → Option Held → List (String Global) → Plan → Command → Type 0
+PlanClaims left held words plan (command.Solve place) = IfSome (content_of left held (input_at words place)) (λ found. OfInstance found (QuestionClaims question.Solve plan))
+PlanClaims left held words plan (command.Certify place) = IfSome (content_of left held (input_at words place)) (λ found. OfInstance found (QuestionClaims question.Certify plan))
+PlanClaims left held words plan (command.Simulate place) = IfSome (content_of left held (input_at words place)) (λ found. OfInstance found (QuestionClaims question.Simulate plan))
+PlanClaims left held words plan (command.Check None None) = Unit {0}
+PlanClaims left held words plan (command.Check place cert) = CompareClaims (content_of left held (input_at words place)) (content_of left held (input_at words cert))
+PlanClaims left held words plan _ = Unit {0}
+
 -- what a command that is done claims, where its inputs are told: the report, the certificate that was written, or the one that was checked
-abbrev pub Claims : Option (List ℕ) → Option Held → List (String Global) → List ℕ → Command → Type 0
-Claims left held words text (command.Solve place) = IfSome (content_of left held (input_at words place)) (λ found. OfInstance found (IsReport text))
-Claims left held words text (command.Certify place) = IfSome (content_of left held (input_at words place)) (λ found. OfInstance found (IsCertificate text))
-Claims left held words text (command.Simulate place) = IfSome (content_of left held (input_at words place)) (λ found. OfInstance found (IsTable text))
-Claims left held words text (command.Check None None) = Unit {0}
-Claims left held words text (command.Check place cert) = CompareClaims (content_of left held (input_at words place)) (content_of left held (input_at words cert))
-Claims left held words text _ = Unit {0}
+abbrev pub Claims : Option (List ℕ) → Option Held → List (String Global) → List Handed → List ℕ → Command → Type 0
+Claims left held words handed text (command.Solve place) = IfSome (content_of left held (input_at words place)) (λ found. OfInstance found (IsReport text))
+Claims left held words handed text (command.Certify place) = IfSome (content_of left held (input_at words place)) (λ found. OfInstance found (IsCertificate text))
+Claims left held words handed text (command.Simulate place) = IfSome (content_of left held (input_at words place)) (λ found. OfInstance found (IsTable text handed))
+Claims left held words handed text (command.Check None None) = Unit {0}
+Claims left held words handed text (command.Check place cert) = CompareClaims (content_of left held (input_at words place)) (content_of left held (input_at words cert))
+Claims left held words handed text _ = Unit {0}

@@ -7,3 +7,4 @@ pub mod Claims
 pub mod Causes
 pub mod Checks
 pub mod Solvers
+pub mod Trial

@@ -27,11 +27,6 @@ IsDecided WriteFault = ⊥
 IsDecided Memory = ⊥
 IsDecided _ = Unit {0}
 
--- a command that is built can end so
-abbrev pub IsGiven : Status → Type 0
-IsGiven House = ⊥
-IsGiven _ = Unit {0}
-
 -- a run that ends so wrote nothing on standard output
 abbrev pub WritesNothing : Status → Type 0
 WritesNothing Words = Unit {0}
@@ -54,6 +49,10 @@ status_of (fault.NotThisCommand kind) = Input
 status_of (fault.ReadFault name) = ReadFault
 status_of fault.WriteFault = WriteFault
 status_of fault.Memory = Memory
+status_of (fault.NoRule index) = House
+status_of (fault.RuleShared index) = House
+status_of (fault.RuleCap index) = House
+status_of (fault.RuleOver over) = House
 status_of _ = Words
 
 -- the fault of words that name no command
@@ -77,3 +76,13 @@ IsOfInputs (fault.ReadFault name) = Unit {0}
 IsOfInputs fault.WriteFault = Unit {0}
 IsOfInputs fault.Memory = Unit {0}
 IsOfInputs _ = ⊥
+
+-- the fault is one of what was to be written
+abbrev pub IsOfWriting : Fault → Type 0
+IsOfWriting fault.WriteFault = Unit {0}
+IsOfWriting fault.Memory = Unit {0}
+IsOfWriting (fault.NoRule index) = Unit {0}
+IsOfWriting (fault.RuleShared index) = Unit {0}
+IsOfWriting (fault.RuleCap index) = Unit {0}
+IsOfWriting (fault.RuleOver over) = Unit {0}
+IsOfWriting _ = ⊥

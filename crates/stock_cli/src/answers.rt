@@ -1,16 +1,18 @@
 // What a run puts on standard output.
-ghost use Rattle.std.specs.Prelude.{◌≡◌, ◌≢◌, ◌≤◌, Err, OnOk};
+ghost use Rattle.std.specs.Prelude.{◌≡◌, ◌≤◌, Ok, OnOk, IfErr, map};
 ghost use Rattle.std.specs.Io.KnownBytes.{Appends};
-ghost use Rattle.stock_edge.specs.Causes.{AppendsPrefix, Rose};
-ghost use Rattle.stock_cli.specs.Outcome.{output_of, AnswerHasText};
+ghost use Rattle.stock_edge.specs.Causes.{AppendsPrefix, HasCause, Rose};
+ghost use Rattle.stock_cli.specs.Outcome.{output_of, outcome_of, task_plan, task_status, text_of, AnswerHasText, CanBeDone, Finishes, EndsBy};
+ghost use Rattle.stock_cli.specs.Status.{IsOfWriting};
 
-use crate::runs::{RunErr, run_network};
+use crate::runs::run_network;
 use crate::status::Status;
 use decision_model::Network;
 use fraction128::Text;
-use report_text::help_text;
+use node_state::HouseRule;
+use report_text::{Fault, help_text};
 use std::alloc::Global;
-use stock_edge::{Sink, write_all};
+use stock_edge::{Failed, Sink, write_all};
 use value_cert::{Cert, write_cert};
 
 /// What is to be written, before any of it is.
@@ -22,37 +24,64 @@ pub enum Answer {
     Rejection(Text),
     /// A certificate, whose text is made as it is written.
     Certificate(Cert),
-    /// A network, which runs as its table is written.
-    Simulation(Network),
     /// The text of `help`.
     Help,
 }
 
-/// The status of a run that has written an answer.
-pub fn status_with(answer: &Answer) -> Status
-    ensures { result ≡ (output_of answer.now).status }
+/// What is left to do, once all inputs are read.
+#[derive(Drop)]
+pub enum Task {
+    Write(Answer),
+    /// To run a network, and to write its table meanwhile.
+    Run(Network),
+}
+
+/// The status of a run that has done its task.
+pub fn status_with(task: &Task) -> Status
+    ensures { result ≡ task_status task.now }
 {
-    match answer {
-        Answer::Rejection(_) => Status::Rejected,
+    match task {
+        Task::Write(Answer::Rejection(_)) => Status::Rejected,
         _ => Status::Done,
     }
 }
 
-/// Writes an answer. After a fault a prefix of it was written. Only the run of a network takes memory.
-pub fn write_answer<O: Sink>(alloc: Global, answer: &Answer, out: &mut O) -> Result<(), RunErr>
+// Writes an answer. After a fault a prefix of it was written.
+fn write_answer<O: Sink>(answer: &Answer, out: &mut O) -> Result<(), Failed>
     requires { AnswerHasText answer.now }
     ensures whole { OnOk result (Appends (O.written out.old) (O.written out.new) (output_of answer.now).text) }
     ensures prefix { AppendsPrefix (O.written out.old) (O.written out.new) (output_of answer.now).text }
-    ensures later { O.faults out.old ≤ O.faults out.new }
-    ensures cause { result ≡ Err RunErr.Write → Rose (O.faults out.old) (O.faults out.new) }
-    ensures memory { answer.now ≡ Answer.Help → result ≢ Err RunErr.Memory }
+    ensures cause { HasCause (O.faults out.old) (O.faults out.new) result }
 {
     match answer {
-        Answer::Printed(text) => write_all(out, text.bytes())?,
-        Answer::Rejection(text) => write_all(out, text.bytes())?,
-        Answer::Certificate(cert) => write_cert(cert, out)?,
-        Answer::Simulation(net) => run_network(alloc, net, out)?,
-        Answer::Help => write_all(out, help_text().as_bytes())?,
+        Answer::Printed(text) => write_all(out, text.bytes()),
+        Answer::Rejection(text) => write_all(out, text.bytes()),
+        Answer::Certificate(cert) => write_cert(cert, out),
+        Answer::Help => write_all(out, help_text().as_bytes()),
     }
-    Ok(())
+}
+
+/// Does what is left to do, with the rules that the caller hands in, which only the run of a network asks. After a fault
+/// a prefix of the text was written. Only the run of a network takes memory.
+pub fn perform_task<O: Sink>(
+    alloc: Global,
+    task: &Task,
+    rules: Vec<Box<dyn HouseRule>>,
+    out: &mut O,
+) -> Result<(), Fault>
+    requires { CanBeDone task.now }
+    ensures whole { OnOk result (Finishes (outcome_of (map (λ b. (⟦<dyn HouseRule as HouseRule>⟧ b.vtable).meaning b.value) rules.items) (Ok (task_plan task.now))) (task_status task.now) (O.written out.old) (O.written out.new)) }
+    ensures part { AppendsPrefix (O.written out.old) (O.written out.new) (text_of (outcome_of (map (λ b. (⟦<dyn HouseRule as HouseRule>⟧ b.vtable).meaning b.value) rules.items) (Ok (task_plan task.now)))) }
+    ensures cut { IfErr result (EndsBy (Rose (O.faults out.old) (O.faults out.new)) (outcome_of (map (λ b. (⟦<dyn HouseRule as HouseRule>⟧ b.vtable).meaning b.value) rules.items) (Ok (task_plan task.now))) (O.written out.old) (O.written out.new)) }
+    ensures of_writing { IfErr result IsOfWriting }
+    ensures later { O.faults out.old ≤ O.faults out.new }
+    ensures help { task.now ≡ Task.Write Answer.Help → IfErr result (λ fault. fault ≡ Fault.WriteFault) }
+{
+    match task {
+        Task::Write(answer) => match write_answer(answer, out) {
+            Ok(()) => Ok(()),
+            Err(Failed) => Err(Fault::WriteFault),
+        },
+        Task::Run(net) => run_network(alloc, net, rules, out),
+    }
 }

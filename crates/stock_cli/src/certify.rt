@@ -3,7 +3,7 @@ ghost use Rattle.std.specs.Prelude.{◌≡◌, Ok, IfOk, IfErr};
 ghost use Rattle.decision_model.specs.Valid.{IsValid};
 ghost use Rattle.stock_cli.specs.Causes.{HasNoAnswer};
 ghost use Rattle.stock_cli.specs.Claims.{IsCertificate};
-ghost use Rattle.stock_cli.specs.Outcome.{certify_outcome, output_of, AnswerHasText};
+ghost use Rattle.stock_cli.specs.Outcome.{certify_outcome, output_of, written, AnswerHasText};
 
 use crate::answers::Answer;
 use crate::commands::Question;
@@ -16,7 +16,7 @@ use std::alloc::Global;
 /// The certificate of an optimal policy.
 pub fn certify(alloc: Global, instance: &Instance) -> Result<Answer, Fault>
     requires { IsValid instance.now }
-    ensures ok { IfOk result (λ answer. certify_outcome instance.now ≡ Ok (output_of answer)) }
+    ensures ok { IfOk result (λ answer. certify_outcome instance.now ≡ Ok (written answer)) }
     ensures certificate { IfOk result (λ answer. IsCertificate (output_of answer).text instance.now) }
     ensures done { IfOk result (λ answer. (output_of answer).status ≡ Status.Done) }
     ensures has_text { IfOk result AnswerHasText }

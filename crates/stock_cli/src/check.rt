@@ -9,7 +9,7 @@ ghost use Rattle.stock_cli.specs.Claims.{HoldsCertificate};
 ghost use Rattle.stock_cli.specs.Inputs.{origin_of, content_of};
 ghost use Rattle.stock_cli.specs.Solvers.{IsBuilt};
 ghost use Rattle.stock_cli.specs.Status.{IsOfInputs};
-ghost use Rattle.stock_cli.specs.Outcome.{check_ending, output_of, AnswerHasText, rejection_text};
+ghost use Rattle.stock_cli.specs.Outcome.{check_ending, output_of, written, AnswerHasText, rejection_text};
 
 use crate::answers::Answer;
 use crate::certificates::{Unchecked, check_from};
@@ -109,7 +109,7 @@ pub fn check<I: Source, F: Files>(
     requires { IsValid instance.now }
     ensures ok { IfOk result (λ answer. IfSome
         (check_ending (content_of (I.left input.old) (F.held files.old) (origin_of from.now)) instance.now (solved_cert instance.now))
-        (λ end. end ≡ Ok (output_of answer))) }
+        (λ end. end ≡ Ok (written answer))) }
     ensures claims { IfOk result (λ answer. (output_of answer).status ≡ Status.Done →
         HoldsCertificate (content_of (I.left input.old) (F.held files.old) (origin_of from.now)) instance.now) }
     ensures has_text { IfOk result AnswerHasText }

@@ -6,12 +6,12 @@ ghost use Rattle.decision_model.specs.declared.instance.Instance.{Instance};
 ghost use Rattle.decision_model.specs.Valid.{IsValid};
 ghost use Rattle.stock_cli.specs.Causes.{command_fault, IsInputOf, IsCheck, ComparesInput, ComesTo, ReadsNoFile, counts_of, IsUnread, IsRefused, HasNoAnswer};
 ghost use Rattle.stock_cli.specs.Checks.{Reaches};
-ghost use Rattle.stock_cli.specs.Claims.{OfInstance, QuestionClaims, CompareClaims, Claims};
+ghost use Rattle.stock_cli.specs.Claims.{OfInstance, QuestionClaims, CompareClaims, PlanClaims};
 ghost use Rattle.stock_cli.specs.Inputs.{origin_of, input_at, content_of, SaysInstance};
-ghost use Rattle.stock_cli.specs.Outcome.{question_outcome, question_ending, compare_ending, command_ending, output_of, AnswerHasText};
+ghost use Rattle.stock_cli.specs.Outcome.{question_outcome, question_ending, compare_ending, command_ending, output_of, written, task_plan, task_status, AnswerHasText, CanBeDone};
 ghost use Rattle.stock_cli.specs.Status.{IsOfInputs};
 
-use crate::answers::Answer;
+use crate::answers::{Answer, Task};
 use crate::certify::certify;
 use crate::check::check;
 use crate::demand::demand;
@@ -19,6 +19,7 @@ use crate::inputs::{Input, read_from};
 use crate::simulate::simulate;
 use crate::solve::solve;
 use crate::status::Status;
+use crate::trial::trial;
 use crate::words::Command;
 use decision_model::Instance;
 use report_text::Fault;
@@ -34,37 +35,37 @@ pub enum Question {
     Simulate,
 }
 
-// The answer to a question on an instance.
-fn answer_on(alloc: Global, question: Question, instance: Instance) -> Result<Answer, Fault>
+// What is left to do for a question on an instance.
+fn answer_on(alloc: Global, question: Question, instance: Instance) -> Result<Task, Fault>
     requires { IsValid instance }
-    ensures ok { IfOk result (λ answer. question_outcome question instance ≡ Ok (output_of answer)) }
-    ensures claims { IfOk result (λ answer. QuestionClaims question (output_of answer).text instance) }
-    ensures done { IfOk result (λ answer. (output_of answer).status ≡ Status.Done) }
-    ensures has_text { IfOk result AnswerHasText }
+    ensures ok { IfOk result (λ task. question_outcome question instance ≡ Ok (task_plan task)) }
+    ensures claims { IfOk result (λ task. QuestionClaims question (task_plan task) instance) }
+    ensures done { IfOk result (λ task. task_status task ≡ Status.Done) }
+    ensures can { IfOk result CanBeDone }
     ensures none { IfErr result (HasNoAnswer question instance) }
     ensures of_inputs { IfErr result IsOfInputs }
 {
     match question {
-        Question::Solve => solve(alloc, &instance),
-        Question::Certify => certify(alloc, &instance),
-        Question::Demand => demand(alloc, &instance),
-        Question::Simulate => simulate(instance),
+        Question::Solve => Ok(Task::Write(solve(alloc, &instance)?)),
+        Question::Certify => Ok(Task::Write(certify(alloc, &instance)?)),
+        Question::Demand => Ok(Task::Write(demand(alloc, &instance)?)),
+        Question::Simulate => Ok(Task::Run(simulate(instance)?)),
     }
 }
 
-// The answer to a question on the instance of an input.
+// What is left to do for a question on the instance of an input.
 fn ask<I: Source, F: Files>(
     alloc: Global,
     question: Question,
     from: &Input<'_>,
     input: &mut I,
     files: &mut F,
-) -> Result<Answer, Fault>
-    ensures ok { IfOk result (λ answer. IfSome (question_ending question (content_of (I.left input.old) (F.held files.old) (origin_of from.now))) (λ end. end ≡ Ok (output_of answer))) }
-    ensures claims { IfOk result (λ answer. IfSome (content_of (I.left input.old) (F.held files.old) (origin_of from.now))
-        (λ found. OfInstance found (QuestionClaims question (output_of answer).text))) }
-    ensures done { IfOk result (λ answer. (output_of answer).status ≡ Status.Done) }
-    ensures has_text { IfOk result AnswerHasText }
+) -> Result<Task, Fault>
+    ensures ok { IfOk result (λ task. IfSome (question_ending question (content_of (I.left input.old) (F.held files.old) (origin_of from.now))) (λ end. end ≡ Ok (task_plan task))) }
+    ensures claims { IfOk result (λ task. IfSome (content_of (I.left input.old) (F.held files.old) (origin_of from.now))
+        (λ found. OfInstance found (QuestionClaims question (task_plan task)))) }
+    ensures done { IfOk result (λ task. task_status task ≡ Status.Done) }
+    ensures can { IfOk result CanBeDone }
     ensures end { OnOk result (origin_of from.now ≡ None → IsAtEnd (I.left input.new)) }
     ensures refused { IfErr result (IsRefused
         (IsUnread (counts_of (I.faults input.old) (I.faults input.new) (F.faults files.old) (F.faults files.new)) (λ read. read ≡ origin_of from.now))
@@ -92,7 +93,7 @@ fn compare<I: Source, F: Files>(
     ensures ok { IfOk result (λ answer. IfSome (compare_ending
         (content_of (I.left input.old) (F.held files.old) (origin_of from.now))
         (content_of (I.left input.old) (F.held files.old) (origin_of cert.now)))
-        (λ end. end ≡ Ok (output_of answer))) }
+        (λ end. end ≡ Ok (written answer))) }
     ensures claims { IfOk result (λ answer. (output_of answer).status ≡ Status.Done → CompareClaims
         (content_of (I.left input.old) (F.held files.old) (origin_of from.now))
         (content_of (I.left input.old) (F.held files.old) (origin_of cert.now))) }
@@ -128,9 +129,9 @@ fn answer_check<I: Source, F: Files>(
     files: &mut F,
 ) -> Result<Answer, Fault>
     ensures ok { IfOk result (λ answer. IfSome
-        (command_ending (I.left input.old) (F.held files.old) words.now (Command.Check place cert)) (λ end. end ≡ Ok (output_of answer))) }
+        (command_ending (I.left input.old) (F.held files.old) words.now (Command.Check place cert)) (λ end. end ≡ Ok (written answer))) }
     ensures claims { IfOk result (λ answer. (output_of answer).status ≡ Status.Done →
-        Claims (I.left input.old) (F.held files.old) words.now (output_of answer).text (Command.Check place cert)) }
+        PlanClaims (I.left input.old) (F.held files.old) words.now (written answer) (Command.Check place cert)) }
     ensures has_text { IfOk result AnswerHasText }
     ensures end { IfOk result (λ answer. (output_of answer).status ≡ Status.Done → IsInputOf (Command.Check place cert) None → IsAtEnd (I.left input.new)) }
     ensures refused { IfErr result (IsRefused
@@ -159,22 +160,22 @@ fn answer_check<I: Source, F: Files>(
     }
 }
 
-/// What is to be written for a command, before any of it is.
-pub fn answer<I: Source, F: Files>(
+/// What is left to do for a command, once its inputs are read; nothing is written before.
+pub fn task_of<I: Source, F: Files>(
     alloc: Global,
     words: &[String],
     command: Command,
     input: &mut I,
     files: &mut F,
-) -> Result<Answer, Fault>
-    ensures ok { IfOk result (λ answer. IfSome
-        (command_ending (I.left input.old) (F.held files.old) words.now command) (λ end. end ≡ Ok (output_of answer))) }
-    ensures claims { IfOk result (λ answer. (output_of answer).status ≡ Status.Done →
-        Claims (I.left input.old) (F.held files.old) words.now (output_of answer).text command) }
-    ensures has_text { IfOk result AnswerHasText }
-    ensures end { IfOk result (λ answer. (output_of answer).status ≡ Status.Done → IsInputOf command None → IsAtEnd (I.left input.new)) }
-    ensures rejects { IfOk result (λ answer. (output_of answer).status ≡ Status.Rejected → IsCheck (Ok command)) }
-    ensures help { command ≡ Command.Help → result ≡ Ok Answer.Help }
+) -> Result<Task, Fault>
+    ensures ok { IfOk result (λ task. IfSome
+        (command_ending (I.left input.old) (F.held files.old) words.now command) (λ end. end ≡ Ok (task_plan task))) }
+    ensures claims { IfOk result (λ task. task_status task ≡ Status.Done →
+        PlanClaims (I.left input.old) (F.held files.old) words.now (task_plan task) command) }
+    ensures can { IfOk result CanBeDone }
+    ensures end { IfOk result (λ task. task_status task ≡ Status.Done → IsInputOf command None → IsAtEnd (I.left input.new)) }
+    ensures rejects { IfOk result (λ task. task_status task ≡ Status.Rejected → IsCheck (Ok command)) }
+    ensures help { command ≡ Command.Help → result ≡ Ok (Task.Write Answer.Help) }
     ensures built { (fault : Fault) → command_fault command ≡ Some fault → result ≡ Err fault }
     ensures refused { IfErr result (IsRefused
         (IsUnread (counts_of (I.faults input.old) (I.faults input.new) (F.faults files.old) (F.faults files.new))
@@ -218,8 +219,14 @@ pub fn answer<I: Source, F: Files>(
             input,
             files,
         ),
-        Command::Check(place, cert) => answer_check(alloc, words, place, cert, input, files),
-        Command::Trial(_) => Err(Fault::NotBuilt),
-        Command::Help => Ok(Answer::Help),
+        Command::Check(place, cert) => match answer_check(alloc, words, place, cert, input, files) {
+            Ok(answer) => Ok(Task::Write(answer)),
+            Err(fault) => Err(fault),
+        },
+        Command::Trial(number) => {
+            let text = trial(alloc, number)?;
+            Ok(Task::Write(Answer::Printed(text)))
+        }
+        Command::Help => Ok(Task::Write(Answer::Help)),
     }
 }

@@ -2,7 +2,7 @@
 ghost use Rattle.std.specs.Prelude.{◌≡◌, Ok, IfOk, IfErr};
 ghost use Rattle.decision_model.specs.Valid.{IsValid};
 ghost use Rattle.stock_cli.specs.Causes.{HasNoAnswer};
-ghost use Rattle.stock_cli.specs.Outcome.{demand_outcome, output_of, AnswerHasText};
+ghost use Rattle.stock_cli.specs.Outcome.{demand_outcome, output_of, written, AnswerHasText};
 
 use crate::answers::Answer;
 use crate::commands::Question;
@@ -14,7 +14,7 @@ use std::alloc::Global;
 /// The laws of demand, for the kinds that have some.
 pub fn demand(alloc: Global, instance: &Instance) -> Result<Answer, Fault>
     requires { IsValid instance.now }
-    ensures ok { IfOk result (λ answer. demand_outcome instance.now ≡ Ok (output_of answer)) }
+    ensures ok { IfOk result (λ answer. demand_outcome instance.now ≡ Ok (written answer)) }
     ensures done { IfOk result (λ answer. (output_of answer).status ≡ Status.Done) }
     ensures has_text { IfOk result AnswerHasText }
     ensures none { IfErr result (HasNoAnswer Question.Demand instance.now) }

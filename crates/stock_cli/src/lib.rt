@@ -8,6 +8,8 @@ mod certify;
 mod check;
 mod commands;
 mod demand;
+#[cfg(test)]
+mod house_tests;
 mod inputs;
 #[cfg(test)]
 mod run_tests;
@@ -19,6 +21,7 @@ mod status;
 #[cfg(test)]
 mod tests;
 mod top;
+mod trial;
 mod words;
 
 pub use runs::{RunErr, run_rows};

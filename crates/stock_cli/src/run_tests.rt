@@ -1,14 +1,14 @@
 // Networks that run as they are written.
-ghost use Rattle.std.specs.Prelude.{IfOk};
+ghost use Rattle.std.specs.Prelude.{IfOk, map};
 ghost use Rattle.decision_model.specs.Network.{IsValidNetwork};
-ghost use Rattle.network_sim.specs.Simulated.{IsAfter};
-ghost use Rattle.node_state.specs.Table.{setting_of};
+ghost use Rattle.stock_cli.specs.Runs.{StandsForSome};
 
 use crate::{RunErr, run_rows};
 use decision_model::{Instance, Network};
 use fraction128::Memory;
 use instance_json::read_instance;
 use network_sim::{Row, Sim};
+use node_state::HouseRule;
 use std::alloc::{AllocError, Global};
 use std::test::Fail;
 use stock_edge::MemSink;
@@ -39,11 +39,11 @@ fn shop(alloc: Global) -> Result<Network, Fail>
 
 fn simulator(alloc: Global, net: &Network) -> Result<Sim, Fail>
     requires { IsValidNetwork net.now }
-    ensures { IfOk result (IsAfter (setting_of net.now) 0) }
+    ensures { IfOk result (λ sim. StandsForSome net.now 0 sim (map (λ b. (⟦<dyn HouseRule as HouseRule>⟧ b.vtable).meaning b.value) sim.rules.items)) }
 {
-    match Sim::new(alloc, net) {
+    match Sim::new(alloc, net, Vec::new(alloc)) {
         Ok(sim) => Ok(sim),
-        Err(Memory) => Err(Fail::from("no memory")),
+        Err(_) => Err(Fail::from("no simulator")),
     }
 }
 

@@ -1,16 +1,22 @@
 // A network period by period: each period's lines are written before the next period runs.
-ghost use Rattle.std.specs.Prelude.{◌≡◌, ℕ, ◌+◌, ◌≤◌, ◌<◌, length, Err, OnOk, OnErr};
+ghost use Rattle.std.specs.Prelude.{◌≡◌, ℕ, ◌+◌, ◌≤◌, ◌<◌, List, length, map, Ok, Err, IfOk, IfErr, OnOk};
 ghost use Rattle.std.specs.Io.KnownBytes.{Appends};
 ghost use Rattle.decision_model.specs.Network.{IsValidNetwork};
-ghost use Rattle.node_state.specs.Table.{network_row, setting_of};
-ghost use Rattle.network_sim.specs.Simulated.{IsAfter};
-ghost use Rattle.report_text.specs.Network.{period_lines, table_text, total_line};
+ghost use Rattle.node_state.specs.Handed.{Handed};
+ghost use Rattle.node_state.specs.Table.{setting_of};
+ghost use Rattle.network_sim.specs.Houses.{rules_refusal};
+ghost use Rattle.network_sim.specs.Simulated.{IsAfter, HasDrawn};
+ghost use Rattle.report_text.specs.Network.{period_lines, total_line};
 ghost use Rattle.stock_edge.specs.Causes.{Rose, AppendsPrefix};
-ghost use Rattle.stock_cli.specs.Runs.{IsCut};
+ghost use Rattle.stock_cli.specs.Outcome.{network_outcome, text_of, Finishes, EndsBy};
+ghost use Rattle.stock_cli.specs.Runs.{Stands, StandsForSome, RanPeriod, RanAll, run_of, run_text, sim_fault, IsCutShort, IsRefusedBy};
+ghost use Rattle.stock_cli.specs.Status.{IsOfWriting};
+ghost use Rattle.stock_cli.specs.declared.status.Status.{Status};
 
 use decision_model::Network;
 use fraction128::{Memory, Text};
-use network_sim::{Row, Sim};
+use network_sim::{Row, RuleOver, Sim, SimErr};
+use node_state::HouseRule;
 use report_text::{Fault, push_period, push_total};
 use std::alloc::Global;
 use stock_edge::{Failed, Sink, write_all};
@@ -18,10 +24,22 @@ use stock_edge::{Failed, Sink, write_all};
 /// Why a network didn't run to its end.
 #[derive(Clone, Copy, Debug, PartialEq, Eq)]
 pub enum RunErr {
+    /// A rule of the caller's own answered more than its cap.
+    Over(RuleOver),
     /// The lines couldn't be written.
     Write,
     /// Memory was refused.
     Memory,
+}
+
+impl From<RuleOver> for RunErr {
+    ghost use Rattle.stock_cli.specs.declared.runs.RunErr.TheVariants.{Over};
+
+    ghost from_gives = { λ over e. e ≡ Over over };
+
+    fn from(over: RuleOver) -> RunErr {
+        RunErr::Over(over)
+    }
 }
 
 impl From<Failed> for RunErr {
@@ -51,14 +69,35 @@ impl From<RunErr> for Fault {
 
     fn from(cut: RunErr) -> Fault {
         match cut {
+            RunErr::Over(over) => Fault::RuleOver(over),
             RunErr::Write => Fault::WriteFault,
             RunErr::Memory => Fault::Memory,
         }
     }
 }
 
+// Writes the lines of a period, from 1.
+fn write_period<K: Sink>(
+    net: &Network,
+    period: u32,
+    row: &Row,
+    text: &mut Text,
+    out: &mut K,
+) -> Result<(), RunErr>
+    requires row { length row.now.lines.items ≡ length net.now.nodes }
+    ensures written { OnOk result (Appends (K.written out.old) (K.written out.new) (period_lines period net.now.nodes row.now.lines.items)) }
+    ensures part { AppendsPrefix (K.written out.old) (K.written out.new) (period_lines period net.now.nodes row.now.lines.items) }
+    ensures not_over { IfErr result IsCutShort }
+    ensures later { K.faults out.old ≤ K.faults out.new }
+    ensures cause { result ≡ Err RunErr.Write → Rose (K.faults out.old) (K.faults out.new) }
+{
+    text.clear();
+    push_period(text, net, period, row)?;
+    write_all(out, text.bytes())?;
+    Ok(())
+}
+
 // Runs the next period, counted from 0, and then writes its lines.
-#[tactic(auto, using(crate::proofs::Simulations::can_draw, crate::proofs::Simulations::states_itself, crate::proofs::Simulations::drawn_length))]
 fn run_period<K: Sink>(
     net: &Network,
     period: u32,
@@ -68,26 +107,22 @@ fn run_period<K: Sink>(
     out: &mut K,
 ) -> Result<(), RunErr>
     requires left { period < net.now.periods }
-    requires stands { IsAfter (setting_of net.now) period sim.old }
+    requires stands { StandsForSome net.now period sim.old (map (λ b. (⟦<dyn HouseRule as HouseRule>⟧ b.vtable).meaning b.value) sim.old.rules.items) }
     requires row { length row.old.lines.items ≡ length net.now.nodes }
-    ensures ran { IsAfter (setting_of net.now) (period + 1) sim.new }
+    ensures ran { (handed : List Handed) → Stands net.now handed period sim.old (map (λ b. (⟦<dyn HouseRule as HouseRule>⟧ b.vtable).meaning b.value) sim.old.rules.items) → RanPeriod net.now handed period sim.new (map (λ b. (⟦<dyn HouseRule as HouseRule>⟧ b.vtable).meaning b.value) sim.new.rules.items) (K.written out.old) (K.written out.new) result }
     ensures row { length row.new.lines.items ≡ length net.now.nodes }
-    ensures written { OnOk result (Appends (K.written out.old) (K.written out.new) (period_lines (period + 1) net.now.nodes (network_row net.now period))) }
-    ensures part { AppendsPrefix (K.written out.old) (K.written out.new) (period_lines (period + 1) net.now.nodes (network_row net.now period)) }
     ensures later { K.faults out.old ≤ K.faults out.new }
     ensures cause { result ≡ Err RunErr.Write → Rose (K.faults out.old) (K.faults out.new) }
 {
-    sim.draw(row);
-    text.clear();
-    push_period(text, net, period + 1, row)?;
-    write_all(out, text.bytes())?;
-    Ok(())
+    sim.draw(row)?;
+    write_period(net, period + 1, row, text, out)
 }
 
 // Writes the total.
 fn write_total<K: Sink>(text: &mut Text, total: u128, out: &mut K) -> Result<(), RunErr>
     ensures written { OnOk result (Appends (K.written out.old) (K.written out.new) (total_line total)) }
     ensures part { AppendsPrefix (K.written out.old) (K.written out.new) (total_line total) }
+    ensures not_over { IfErr result IsCutShort }
     ensures later { K.faults out.old ≤ K.faults out.new }
     ensures cause { result ≡ Err RunErr.Write → Rose (K.faults out.old) (K.faults out.new) }
 {
@@ -98,8 +133,9 @@ fn write_total<K: Sink>(text: &mut Text, total: u128, out: &mut K) -> Result<(),
 }
 
 /// Runs all periods of a network, of which none was run, and writes the table: each period's lines before the next
-/// period runs, in one write or more, and at the end the total. Where it is cut short after some periods, the lines of
-/// those before the last of them were written, and nothing past its own.
+/// period runs, in one write or more, and at the end the total. An answer above its rule's cap ends it behind the lines
+/// of the periods before. Where it is cut short after some periods, the lines of those before the last of them were
+/// written, and nothing past its own.
 pub fn run_rows<K: Sink>(
     alloc: Global,
     net: &Network,
@@ -108,12 +144,10 @@ pub fn run_rows<K: Sink>(
     out: &mut K,
 ) -> Result<(), RunErr>
     requires valid { IsValidNetwork net.now }
-    requires stands { IsAfter (setting_of net.now) 0 sim.old }
+    requires stands { StandsForSome net.now 0 sim.old (map (λ b. (⟦<dyn HouseRule as HouseRule>⟧ b.vtable).meaning b.value) sim.old.rules.items) }
     requires row { length row.old.lines.items ≡ length net.now.nodes }
-    ensures whole { OnOk result (Appends (K.written out.old) (K.written out.new) (table_text net.now)) }
-    ensures ran { OnOk result (IsAfter (setting_of net.now) net.now.periods sim.new) }
-    ensures cut { OnErr result ((k : ℕ) × IsAfter (setting_of net.now) k sim.new × IsCut net.now k (K.written out.old) (K.written out.new)) }
-    ensures part { AppendsPrefix (K.written out.old) (K.written out.new) (table_text net.now) }
+    ensures ran { (handed : List Handed) → Stands net.now handed 0 sim.old (map (λ b. (⟦<dyn HouseRule as HouseRule>⟧ b.vtable).meaning b.value) sim.old.rules.items) → RanAll net.now handed sim.new (map (λ b. (⟦<dyn HouseRule as HouseRule>⟧ b.vtable).meaning b.value) sim.new.rules.items) (K.written out.old) (K.written out.new) result }
+    ensures part { (handed : List Handed) → Stands net.now handed 0 sim.old (map (λ b. (⟦<dyn HouseRule as HouseRule>⟧ b.vtable).meaning b.value) sim.old.rules.items) → AppendsPrefix (K.written out.old) (K.written out.new) (run_text net.now handed (run_of net.now handed net.now.periods)) }
     ensures later { K.faults out.old ≤ K.faults out.new }
     ensures cause { result ≡ Err RunErr.Write → Rose (K.faults out.old) (K.faults out.new) }
 {
@@ -124,15 +158,37 @@ pub fn run_rows<K: Sink>(
     write_total(&mut text, sim.total(), out)
 }
 
-/// Runs a network from the start and writes its table, as `run_rows` does.
-pub(crate) fn run_network<K: Sink>(alloc: Global, net: &Network, out: &mut K) -> Result<(), RunErr>
+// A simulator of a network with these rules.
+fn simulator(alloc: Global, net: &Network, rules: Vec<Box<dyn HouseRule>>) -> Result<Sim, Fault>
     requires { IsValidNetwork net.now }
-    ensures whole { OnOk result (Appends (K.written out.old) (K.written out.new) (table_text net.now)) }
-    ensures part { AppendsPrefix (K.written out.old) (K.written out.new) (table_text net.now) }
-    ensures later { K.faults out.old ≤ K.faults out.new }
-    ensures cause { result ≡ Err RunErr.Write → Rose (K.faults out.old) (K.faults out.new) }
+    ensures stands { IfOk result (λ sim. Stands net.now (map (λ b. (⟦<dyn HouseRule as HouseRule>⟧ b.vtable).meaning b.value) rules.items) 0 sim (map (λ b. (⟦<dyn HouseRule as HouseRule>⟧ b.vtable).meaning b.value) sim.rules.items)) }
+    ensures refused { IfErr result (IsRefusedBy (rules_refusal net.now.nodes (map (λ b. (⟦<dyn HouseRule as HouseRule>⟧ b.vtable).meaning b.value) rules.items))) }
 {
-    let mut sim = Sim::new(alloc, net)?;
+    match Sim::new(alloc, net, rules) {
+        Ok(sim) => Ok(sim),
+        Err(SimErr::NoRule(index)) => Err(Fault::NoRule(index)),
+        Err(SimErr::RuleShared(index)) => Err(Fault::RuleShared(index)),
+        Err(SimErr::RuleCap(index)) => Err(Fault::RuleCap(index)),
+        Err(SimErr::Memory) => Err(Fault::Memory),
+    }
+}
+
+/// Runs a network from the start with these rules and writes its table, as `run_rows` does.
+pub(crate) fn run_network<K: Sink>(
+    alloc: Global,
+    net: &Network,
+    rules: Vec<Box<dyn HouseRule>>,
+    out: &mut K,
+) -> Result<(), Fault>
+    requires { IsValidNetwork net.now }
+    ensures whole { OnOk result (Finishes (network_outcome net.now (map (λ b. (⟦<dyn HouseRule as HouseRule>⟧ b.vtable).meaning b.value) rules.items)) Status.Done (K.written out.old) (K.written out.new)) }
+    ensures part { AppendsPrefix (K.written out.old) (K.written out.new) (text_of (network_outcome net.now (map (λ b. (⟦<dyn HouseRule as HouseRule>⟧ b.vtable).meaning b.value) rules.items))) }
+    ensures cut { IfErr result (EndsBy (Rose (K.faults out.old) (K.faults out.new)) (network_outcome net.now (map (λ b. (⟦<dyn HouseRule as HouseRule>⟧ b.vtable).meaning b.value) rules.items)) (K.written out.old) (K.written out.new)) }
+    ensures of_writing { IfErr result IsOfWriting }
+    ensures later { K.faults out.old ≤ K.faults out.new }
+{
+    let mut sim = simulator(alloc, net, rules)?;
     let mut row = Row::new(alloc, net)?;
-    run_rows(alloc, net, &mut sim, &mut row, out)
+    run_rows(alloc, net, &mut sim, &mut row, out)?;
+    Ok(())
 }

@@ -60,6 +60,10 @@ pub fn status_for(fault: &Fault) -> Status
         Fault::ReadFault(_) => Status::ReadFault,
         Fault::WriteFault => Status::WriteFault,
         Fault::Memory => Status::Memory,
+        Fault::NoRule(_) => Status::House,
+        Fault::RuleShared(_) => Status::House,
+        Fault::RuleCap(_) => Status::House,
+        Fault::RuleOver(_) => Status::House,
         _ => Status::Words,
     }
 }

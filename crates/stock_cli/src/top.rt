@@ -1,22 +1,23 @@
 // The top call.
-ghost use Rattle.std.specs.Prelude.{◌≡◌, ◌⊎◌, ◌≤◌, ℕ, List, None, Some, Ok, Err, IfOk, IfErr, IfSome, IsOk, IsSome, IsSomeAnd};
+ghost use Rattle.std.specs.Prelude.{◌≡◌, ◌⊎◌, ◌≤◌, ℕ, List, map, None, Some, Ok, Err, IfOk, IfErr, IfSome, IsOk, IsSome, IsSomeAnd};
 ghost use Rattle.std.specs.Io.KnownBytes.{Appends, IsAtEnd, Keeps};
 ghost use Rattle.std.specs.declared.option.Option.{Option};
 ghost use Rattle.decision_model.specs.declared.instance.Instance.{Instance};
 ghost use Rattle.stock_edge.specs.Causes.{Rose, AppendsPrefix};
 ghost use Rattle.stock_cli.specs.Causes.{words_fault, IsCheck, TakesInput, ReadsInput, ReadsNoFile, counts_of, FailsOne, IsUnread, IsRefused, IsToldOf, IsTold, HasMessage};
 ghost use Rattle.stock_cli.specs.Checks.{Reaches};
-ghost use Rattle.stock_cli.specs.Claims.{Claims};
+ghost use Rattle.stock_cli.specs.Claims.{Claims, PlanClaims};
 ghost use Rattle.stock_cli.specs.Inputs.{SaysInstance, content_of, input_at};
-ghost use Rattle.stock_cli.specs.Outcome.{ending_of, output_of, AnswerHasText, status_of_outcome, text_of};
-ghost use Rattle.stock_cli.specs.Status.{IsDecided, IsGiven, IsOfInputs, WritesNothing};
+ghost use Rattle.stock_cli.specs.Outcome.{ending_of, plan_of, status_of_outcome, task_plan, task_status, text_of, CanBeDone};
+ghost use Rattle.stock_cli.specs.Status.{IsDecided, IsOfInputs, WritesNothing};
 ghost use Rattle.stock_cli.specs.Words.{command_of};
 
-use crate::answers::{Answer, status_with, write_answer};
-use crate::commands::answer;
+use crate::answers::{Answer, Task, perform_task, status_with};
+use crate::commands::task_of;
 use crate::status::{Status, status_for};
 use crate::words::{Command, read_words};
 use fraction128::Memory;
+use node_state::HouseRule;
 use report_text::{Fault, fault_text};
 use std::alloc::Global;
 use stock_edge::{Files, Sink, Source, write_all};
@@ -24,25 +25,25 @@ use stock_edge::{Files, Sink, Source, write_all};
 /// The message of an output that failed, for which no memory is taken.
 const CANNOT_WRITE: &[u8] = b"stock: cannot write\n";
 
-// What is to be written for the words, before any of it is.
+// What is left to do for the words, once the inputs are read; nothing is written before.
 fn perform<I: Source, F: Files>(
     alloc: Global,
     words: &[String],
     input: &mut I,
     files: &mut F,
-) -> Result<Answer, Fault>
-    ensures ok { IfOk result (λ answer. IfSome (ending_of (I.left input.old) (F.held files.old) words.now) (λ end. end ≡ Ok (output_of answer))) }
-    ensures claims { IfOk result (λ answer. (command : Command) → command_of words.now ≡ Ok command → (output_of answer).status ≡ Status.Done →
-        Claims (I.left input.old) (F.held files.old) words.now (output_of answer).text command) }
-    ensures has_text { IfOk result AnswerHasText }
-    ensures end { IfOk result (λ answer. (output_of answer).status ≡ Status.Done → TakesInput (command_of words.now) None → IsAtEnd (I.left input.new)) }
-    ensures rejects { IfOk result (λ answer. (output_of answer).status ≡ Status.Rejected → IsCheck (command_of words.now)) }
-    ensures help { command_of words.now ≡ Ok Command.Help → result ≡ Ok Answer.Help }
+) -> Result<Task, Fault>
+    ensures ok { IfOk result (λ task. IfSome (plan_of (I.left input.old) (F.held files.old) words.now) (λ end. end ≡ Ok (task_plan task))) }
+    ensures claims { IfOk result (λ task. (command : Command) → command_of words.now ≡ Ok command → task_status task ≡ Status.Done →
+        PlanClaims (I.left input.old) (F.held files.old) words.now (task_plan task) command) }
+    ensures can { IfOk result CanBeDone }
+    ensures end { IfOk result (λ task. task_status task ≡ Status.Done → TakesInput (command_of words.now) None → IsAtEnd (I.left input.new)) }
+    ensures rejects { IfOk result (λ task. task_status task ≡ Status.Rejected → IsCheck (command_of words.now)) }
+    ensures help { command_of words.now ≡ Ok Command.Help → result ≡ Ok (Task.Write Answer.Help) }
     ensures words { (fault : Fault) → words_fault words.now ≡ Some fault → result ≡ Err fault }
     ensures refused { IfErr result (IsRefused
         (IsUnread (counts_of (I.faults input.old) (I.faults input.new) (F.faults files.old) (F.faults files.new))
         (ReadsInput (I.left input.old) (F.held files.old) words.now (command_of words.now)))
-        (ending_of (I.left input.old) (F.held files.old) words.now)) }
+        (plan_of (I.left input.old) (F.held files.old) words.now)) }
     ensures of_words { IfErr result (λ fault. IsOfInputs fault ⊎ (words_fault words.now ≡ Some fault)) }
     ensures later_input { I.faults input.old ≤ I.faults input.new }
     ensures later_files { F.faults files.old ≤ F.faults files.new }
@@ -53,7 +54,7 @@ fn perform<I: Source, F: Files>(
         Reaches instance (I.left input.old) (I.left input.new) }
 {
     match read_words(words) {
-        Ok(command) => answer(alloc, words, command, input, files),
+        Ok(command) => task_of(alloc, words, command, input, files),
         Err(wrong) => Err(Fault::from(wrong)),
     }
 }
@@ -90,8 +91,10 @@ fn refuse<E: Sink>(alloc: Global, err: &mut E, fault: &Fault) -> Status
 ///
 /// `solve` prints an optimal policy; `certify` its certificate; `check` checks a certificate against an instance, whoever
 /// wrote it; `demand` prints the laws of demand of a newsvendor, a finite, an average-cost or a serial instance;
-/// `simulate` runs a network and prints what happens, each period's lines before the next one runs; `help` prints what the
-/// commands are.
+/// `simulate` runs a network with the order rules that the caller hands in, which its nodes name by their places from 0,
+/// and prints what happens, each period's lines before the next one runs; `trial` makes instances from a number, solves
+/// them, checks their certificates and prints what comes out; `help` prints what the commands are. The rules are dropped
+/// when the call returns.
 pub fn stock<I: Source, F: Files, O: Sink, E: Sink>(
     alloc: Global,
     words: &[String],
@@ -99,12 +102,13 @@ pub fn stock<I: Source, F: Files, O: Sink, E: Sink>(
     files: &mut F,
     out: &mut O,
     err: &mut E,
+    rules: Vec<Box<dyn HouseRule>>,
 ) -> Status
     // Where the inputs tell what they hold, the status and the text are those of the ending.
-    ensures outcome { IfSome (ending_of (I.left input.old) (F.held files.old) words.now) (λ end. IsDecided result →
+    ensures outcome { IfSome (ending_of (I.left input.old) (F.held files.old) words.now (map (λ b. (⟦<dyn HouseRule as HouseRule>⟧ b.vtable).meaning b.value) rules.items)) (λ end. IsDecided result →
         (result ≡ status_of_outcome end) × Appends (O.written out.old) (O.written out.new) (text_of end)) }
     // A run that is cut short wrote a prefix of that text.
-    ensures part { IfSome (ending_of (I.left input.old) (F.held files.old) words.now) (λ end.
+    ensures part { IfSome (ending_of (I.left input.old) (F.held files.old) words.now (map (λ b. (⟦<dyn HouseRule as HouseRule>⟧ b.vtable).meaning b.value) rules.items)) (λ end.
         AppendsPrefix (O.written out.old) (O.written out.new) (text_of end)) }
 
     // Each status has its cause, whatever the inputs tell.
@@ -115,13 +119,12 @@ pub fn stock<I: Source, F: Files, O: Sink, E: Sink>(
         (counts_of (I.faults input.old) (I.faults input.new) (F.faults files.old) (F.faults files.new))
         (ReadsInput (I.left input.old) (F.held files.old) words.now (command_of words.now)) }
     ensures write_fault { result ≡ Status.WriteFault → Rose (O.faults out.old) (O.faults out.new) }
-    ensures writing { result ≡ Status.WriteFault → IfSome (ending_of (I.left input.old) (F.held files.old) words.now) IsOk }
+    ensures writing { result ≡ Status.WriteFault → IfSome (ending_of (I.left input.old) (F.held files.old) words.now (map (λ b. (⟦<dyn HouseRule as HouseRule>⟧ b.vtable).meaning b.value) rules.items)) IsOk }
     ensures rejects { result ≡ Status.Rejected → IsCheck (command_of words.now) }
-    ensures given { IsGiven result }
     ensures nothing { WritesNothing result → Keeps (O.written out.old) (O.written out.new) }
 
     // What ends with a text ends so, where no object failed and memory is there; `help` takes none.
-    ensures complete { IfSome (ending_of (I.left input.old) (F.held files.old) words.now) (λ end. IsOk end
+    ensures complete { IfSome (ending_of (I.left input.old) (F.held files.old) words.now (map (λ b. (⟦<dyn HouseRule as HouseRule>⟧ b.vtable).meaning b.value) rules.items)) (λ end. IsOk end
         → ¬ Rose (I.faults input.old) (I.faults input.new) → ¬ Rose (F.faults files.old) (F.faults files.new)
         → ¬ Rose (O.faults out.old) (O.faults out.new)
         → (result ≡ status_of_outcome end) ⊎ (result ≡ Status.Memory)) }
@@ -129,7 +132,7 @@ pub fn stock<I: Source, F: Files, O: Sink, E: Sink>(
 
     // Done after `solve`, `certify` and `check` names a policy than which none costs less, and its cost.
     ensures claims { (command : Command) → command_of words.now ≡ Ok command → result ≡ Status.Done → (text : List ℕ)
-        × Claims (I.left input.old) (F.held files.old) words.now text command × Appends (O.written out.old) (O.written out.new) text }
+        × Claims (I.left input.old) (F.held files.old) words.now (map (λ b. (⟦<dyn HouseRule as HouseRule>⟧ b.vtable).meaning b.value) rules.items) text command × Appends (O.written out.old) (O.written out.new) text }
     // Done means that standard input, where it is read, was read to its end.
     ensures end { result ≡ Status.Done → TakesInput (command_of words.now) None → IsAtEnd (I.left input.new) }
 
@@ -145,15 +148,15 @@ pub fn stock<I: Source, F: Files, O: Sink, E: Sink>(
     // What stands on `err`.
     ensures message { HasMessage result → IsTold
         (counts_of (I.faults input.old) (I.faults input.new) (F.faults files.old) (F.faults files.new))
-        (ending_of (I.left input.old) (F.held files.old) words.now)
+        (ending_of (I.left input.old) (F.held files.old) words.now (map (λ b. (⟦<dyn HouseRule as HouseRule>⟧ b.vtable).meaning b.value) rules.items))
         (ReadsInput (I.left input.old) (F.held files.old) words.now (command_of words.now)) result
         (E.faults err.old) (E.faults err.new) (E.written err.old) (E.written err.new) }
     ensures silent { (HasMessage result → ⊥) → Keeps (E.written err.old) (E.written err.new) }
 {
     match perform(alloc, words, input, files) {
-        Ok(answer) => match write_answer(alloc, &answer, out) {
-            Ok(()) => status_with(&answer),
-            Err(cut) => refuse(alloc, err, &Fault::from(cut)),
+        Ok(task) => match perform_task(alloc, &task, rules, out) {
+            Ok(()) => status_with(&task),
+            Err(fault) => refuse(alloc, err, &fault),
         },
         Err(fault) => refuse(alloc, err, &fault),
     }

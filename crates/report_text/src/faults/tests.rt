@@ -4,6 +4,7 @@ use decision_model::Kind;
 use demand_law::LawFault;
 use fraction128::Text;
 use instance_json::{InstanceFault, Key, KeyList};
+use network_sim::RuleOver;
 use std::alloc::Global;
 use std::process::Abort;
 use std::test::Fail;
@@ -55,12 +56,6 @@ fn faults_of_a_run(rt: HostRuntime) -> Result<(), Fail> {
     says(
         &rt,
         alloc,
-        Fault::NotBuilt,
-        "stock: word 1: not built yet\n",
-    )?;
-    says(
-        &rt,
-        alloc,
         Fault::TooLong,
         "stock: instance longer than 1048576 bytes\n",
     )?;
@@ -81,6 +76,40 @@ fn faults_of_a_run(rt: HostRuntime) -> Result<(), Fail> {
 }
 
 #[test]
+fn faults_of_house_rules(rt: HostRuntime) -> Result<(), Fail> {
+    let alloc = rt.alloc();
+    says(
+        &rt,
+        alloc,
+        Fault::NoRule(0),
+        "stock: house rule 0: not given\n",
+    )?;
+    says(
+        &rt,
+        alloc,
+        Fault::RuleShared(63),
+        "stock: house rule 63: named twice\n",
+    )?;
+    says(
+        &rt,
+        alloc,
+        Fault::RuleCap(7),
+        "stock: house rule 7: its cap is larger than the stated cap\n",
+    )?;
+    let over = RuleOver {
+        node: 2,
+        answer: 18_446_744_073_709_551_615,
+        cap: 10,
+    };
+    says(
+        &rt,
+        alloc,
+        Fault::RuleOver(over),
+        "stock: node 2: house rule answered 18446744073709551615, its cap is 10\n",
+    )
+}
+
+#[test]
 fn faults_of_an_instance(rt: HostRuntime) -> Result<(), Fail> {
     let alloc = rt.alloc();
     tells(
@@ -94,12 +123,6 @@ fn faults_of_an_instance(rt: HostRuntime) -> Result<(), Fail> {
         alloc,
         InstanceFault::UnknownKind,
         "stock: instance: unknown kind\n",
-    )?;
-    tells(
-        &rt,
-        alloc,
-        InstanceFault::NotBuilt,
-        "stock: instance: not built yet\n",
     )?;
     tells(
         &rt,

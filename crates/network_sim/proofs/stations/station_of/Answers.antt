@@ -1,8 +1,7 @@
-use Rattle.std.proofs.Common.{◌≡◌, ◌<◌, suc, List, length, ◌∙◌, ap, arith, get_or}
+use Rattle.std.proofs.Common.{◌≡◌, ◌<◌, List, length, sym, ◌∙◌, ap, subst, arith, get_or}
 use Rattle.decision_model.specs.declared.network.NodeSpec.{NodeSpec}
-use Rattle.decision_model.specs.Nodes.{node_at, no_node}
+use Rattle.decision_model.specs.Nodes.{node_at, no_node, IsReadableDemand}
 use Rattle.decision_model.specs.NetworkFacts.{node_readable}
-use Rattle.node_state.specs.Table.{demand_of}
 use Rattle.network_sim.proofs.Ordered.{get_or_any}
 use Rattle.network_sim.proofs.stations.station_of.Goals as goal
 
@@ -14,6 +13,7 @@ returns c =
     let readable = node_readable c.args.network.now c.requires.valid.readable c.args.place c.requires.within in
     let h = ap (λ (x : NodeSpec). x.holding) same in
     let o = ap (λ (x : NodeSpec). x.stockout) same in
+    let demand = c.in-Ok.ensures ∙ ap (λ (x : NodeSpec). x.demand) same in
     record {
       rule = c.of_rule.ensures ∙ ap (λ (x : NodeSpec). x.rule) same;
       holding = h;
@@ -22,5 +22,6 @@ returns c =
       callers = c.requires.callers;
       suppliers = c.requires.suppliers;
       echelon = c.in_ok-echelon.ensures;
-      trace = λ t. c.in_ok-trace.ensures t ∙ ap (λ (x : NodeSpec). demand_of x.demand (suc t)) same;
+      demand = demand;
+      demanded = subst (IsReadableDemand c.args.network.now.periods) (sym demand) readable.demand;
     }

@@ -5,7 +5,7 @@ use Rattle.value_cert.specs.Meaning.{solved_cert}
 use Rattle.stock_cli.specs.Causes.{ComparesInput, counts_of, FailedAt, IsRefused, IsUnread}
 use Rattle.stock_cli.specs.Inputs.{Content, content_of, origin_of}
 use Rattle.report_text.specs.declared.faults.Fault.{Fault}
-use Rattle.stock_cli.specs.Outcome.{Ending, Output, check_ending, output_of}
+use Rattle.stock_cli.specs.Outcome.{Plan, Planned, check_ending, written}
 use Rattle.stock_cli.specs.Solvers.{IsBuilt}
 use Rattle.stock_cli.proofs.Endings.{compare_claims, failed_later, is_standard, refuses_said, same_content, stands_said, tells_said}
 use Rattle.stock_cli.proofs.commands.compare.Goals as goal
@@ -31,7 +31,7 @@ returns-clause-refused g c =
     let input = origin_of c.args.cert.now in
     let content : Content = content_of (g.I.Source.left c.args.input.now) (g.F.Files.held c.args.files.now) from in
     let cert : Content = content_of (g.I.Source.left c.args.input.now) (g.F.Files.held c.args.files.now) input in
-    let answer : Instance → Ending = λ i. check_ending cert i (solved_cert i) in
+    let answer : Instance → Planned = λ i. check_ending cert i (solved_cert i) in
     let later : List ℕ → Type 0 = λ name. IsBuilt instance × FailedAt (counts_of (g.I.Source.faults c.read_from.new.input) (g.I.Source.faults c.check.new.input) (g.F.Files.faults c.read_from.new.files) (g.F.Files.faults c.check.new.files)) input name in
     let all : List ℕ → Type 0 = IsUnread (counts_of (g.I.Source.faults c.args.input.now) (g.I.Source.faults c.check.new.input) (g.F.Files.faults c.args.files.now) (g.F.Files.faults c.check.new.files)) (ComparesInput content from input) in
     let same = same_content (g.I.Source.left c.args.input.now) (g.I.Source.left c.read_from.new.input) (g.F.Files.held c.args.files.now) (g.F.Files.held c.read_from.new.files) input
@@ -52,11 +52,11 @@ returns-clause-ok g c =
     let input = origin_of c.args.cert.now in
     let content : Content = content_of (g.I.Source.left c.args.input.now) (g.F.Files.held c.args.files.now) (origin_of c.args.from.now) in
     let cert : Content = content_of (g.I.Source.left c.args.input.now) (g.F.Files.held c.args.files.now) input in
-    let answer : Instance → Ending = λ i. check_ending cert i (solved_cert i) in
+    let answer : Instance → Planned = λ i. check_ending cert i (solved_cert i) in
     let same = same_content (g.I.Source.left c.args.input.now) (g.I.Source.left c.read_from.new.input) (g.F.Files.held c.args.files.now) (g.F.Files.held c.read_from.new.files) input
     (λ none. ap g.I.Source.left (c.in_ok-instance.ensures.same_input (λ first. c.requires first none))) c.in_ok-instance.ensures.same_held in
     IfOk-weaker c.check.result _ _ (λ given h.
-    let Told : Result Output Fault → Type 0 = λ end. end ≡ Ok (output_of given) in
+    let Told : Result Plan Fault → Type 0 = λ end. end ≡ Ok (written given) in
     let P : Content → Type 0 = λ found. IfSome (check_ending found instance (solved_cert instance)) Told in
     tells_said answer content instance Told c.in_ok-instance.ensures.said (subst P same h)) c.check.ensures.ok
 

@@ -9,8 +9,8 @@ loop-demand-preserved c =
     let within = c.loop-demand-test.true in
     record {
       state = step_at _ _ (0, 0) _ _ within c.loop-demand.invariant.state h k.0 k.1 k.3;
-      total = omega (arith, h.total, c.from-total.ensures, c.loop-demand.invariant.total);
-      bound = omega (arith, c.from-total.ensures, c.loop-demand.invariant.bound, k.2);
+      total = omega (arith, h.total, c.from.ensures, c.loop-demand.invariant.total);
+      bound = omega (arith, c.from.ensures, c.loop-demand.invariant.bound, k.2);
       fault = no_fault_at _ _ (0, 0) _ within c.loop-demand.invariant.state k.0 k.1 k.3 ∙ c.loop-demand.invariant.fault;
     }
 
@@ -20,4 +20,4 @@ from_weights-requires c =
     is_law _ _ some (state_end _ _ _ c.loop-demand-test.false c.loop-demand.invariant.state) (omega (arith, c.if-total-gt-MOST_TOTAL.false, c.loop-demand.invariant.total))
 
 pub returns-clause-ok : goal.returns-clause-ok
-returns-clause-ok c = c.from_weights.ensures ∙ is_law_of _ _ (state_end _ _ _ c.loop-demand-test.false c.loop-demand.invariant.state)
+returns-clause-ok c = c.in_ok-from_weights.ensures ∙ is_law_of _ _ (state_end _ _ _ c.loop-demand-test.false c.loop-demand.invariant.state)

@@ -14,4 +14,4 @@ pub returns-clause-total : goal.returns-clause-total
 returns-clause-total c =
     let none : c.args.total % sum c.args.law.now ≡ 0 = search rules in
     let is : c.in_ok-multiples.multiples.items ≡ rescaled_law c.args.law.now c.args.total = search rules in
-    ap sum (c.from_weights.ensures ∙ is) ∙ sum-rescaled_law c.args.law.now c.args.total none
+    ap sum (c.in_ok-from_weights.ensures ∙ is) ∙ sum-rescaled_law c.args.law.now c.args.total none

@@ -1,4 +1,4 @@
-use Rattle.std.proofs.Common.{◌≡◌, ℕ, suc, ◌+◌, ◌<◌, ◌^◌, List, arith, length, slice_index, subst, sym, ap, ◌∙◌, refl}
+use Rattle.std.proofs.Common.{rules, map, ◌≡◌, ℕ, suc, ◌+◌, ◌<◌, ◌^◌, List, arith, length, slice_index, subst, sym, ap, ◌∙◌, refl}
 use Rattle.std.proofs.lemmas.List.{with_items_is}
 use Rattle.node_state.specs.Holdings.{Holding}
 use Rattle.node_state.specs.Table.{costs, row}
@@ -8,13 +8,13 @@ use Rattle.network_sim.proofs.Played.{demand_room, demanded_next, paused_next, r
 use Rattle.network_sim.proofs.state.State.advance.Goals as goal
 
 pub add_demands-requires-clause-few : goal.add_demands-requires-clause-few
-add_demands-requires-clause-few c =
+add_demands-requires-clause-few g c =
     let q = c.requires in
     subst (λ (xs : List ℕ). (k : ℕ) → k < length xs → slice_index xs k + slice_index c.args.demands.now k < 2 ^ 64) (sym c.deref_mut-2.ensures.value)
     (demand_room q.setting q.played c.args.self.now q.after q.left c.args.demands.now q.demands)
 
 pub run_period-requires : goal.run_period-requires
-run_period-requires c =
+run_period-requires g c =
     let q = c.requires in
     let paused = paused_next q.setting q.played c.args.self.now q.after q.left c.args.demands.now q.demands c.note.new.self c.note.ensures.all_orders c.note.ensures.all_receipts c.note.ensures.all_shipments c.note.ensures.orders c.note.ensures.receipts c.note.ensures.shipments in
     let demanded = demanded_next q.setting q.played c.args.self.now q.after q.left c.args.demands.now q.demands c.add_demands.new.demanded (c.add_demands.ensures.all ∙ ap length c.deref_mut-2.ensures.value)
@@ -24,20 +24,20 @@ run_period-requires c =
       played = q.played;
       ready = ready_now q.setting q.played c.args.self.now q.after q.left c.args.demands.now q.demands c.deref_mut-3.result.now c.deref-2.result.now c.deref-3.result.now c.add_demands.new.demanded c.note.new.self
           c.deref_mut-3.ensures.value c.deref-2.ensures.value (c.deref-3.ensures.value ∙ with_items_is c.args.self.now.demanded c.add_demands.new.demanded (c.add_demands.ensures.all ∙ c.deref_mut-2.ensures.len))
-          demanded paused;
+          demanded paused (map (λ b. (g.dyn-1.0.entry b.vtable).1.meaning b.value) c.args.rules.now) c.args.caps.now q.fit;
     }
 
 pub write_lines-requires-clause-rising : goal.write_lines-requires-clause-rising
-write_lines-requires-clause-rising c = λ k less.
+write_lines-requires-clause-rising g c = λ k less.
     let q = c.requires in
     let paused = paused_next q.setting q.played c.args.self.now q.after q.left c.args.demands.now q.demands c.note.new.self c.note.ensures.all_orders c.note.ensures.all_receipts c.note.ensures.all_shipments c.note.ensures.orders c.note.ensures.receipts c.note.ensures.shipments in
     let demanded = demanded_next q.setting q.played c.args.self.now q.after q.left c.args.demands.now q.demands c.add_demands.new.demanded (c.add_demands.ensures.all ∙ ap length c.deref_mut-2.ensures.value)
     (subst (λ (xs : List ℕ). (k : ℕ) → k < length xs → slice_index c.add_demands.new.demanded k ≡ slice_index xs k + slice_index c.args.demands.now k) c.deref_mut-2.ensures.value c.add_demands.ensures.each) in
     let so_far = with_items_is c.args.self.now.demanded c.add_demands.new.demanded (c.add_demands.ensures.all ∙ c.deref_mut-2.ensures.len) in
-    let holds = c.run_period.ensures.holds q.setting q.played
+    let holds = c.in_ok-run_period.ensures.holds q.setting q.played
     (ready_now q.setting q.played c.args.self.now q.after q.left c.args.demands.now q.demands c.deref_mut-3.result.now c.deref-2.result.now c.deref-3.result.now c.add_demands.new.demanded c.note.new.self
-    c.deref_mut-3.ensures.value c.deref-2.ensures.value (c.deref-3.ensures.value ∙ so_far) demanded paused) in
-    let nodes = with_items_is c.args.self.now.nodes c.run_period.new.nodes (c.run_period.ensures.all ∙ c.deref_mut-3.ensures.len) in
+    c.deref_mut-3.ensures.value c.deref-2.ensures.value (c.deref-3.ensures.value ∙ so_far) demanded paused (map (λ b. (g.dyn-1.0.entry b.vtable).1.meaning b.value) c.args.rules.now) c.args.caps.now q.fit) in
+    let nodes = with_items_is c.args.self.now.nodes c.run_period.new.nodes (c.in_ok-run_period.ensures.all ∙ c.deref_mut-3.ensures.len) in
     let ordered = with_items_is c.args.self.now.ordered c.note_ordered.new.ordered (c.note_ordered.ensures.all ∙ c.deref_mut.ensures.len) in
     let before : (k : ℕ) → k < length c.args.self.now.nodes.items → slice_index c.note_ordered.new.ordered k ≡ (node c.args.self.now.nodes.items k).ordered =
     subst (λ (xs : List Holding). (k : ℕ) → k < length xs → slice_index c.note_ordered.new.ordered k ≡ (node xs k).ordered) c.deref.ensures.value c.note_ordered.ensures.each in
@@ -49,15 +49,15 @@ write_lines-requires-clause-rising c = λ k less.
     omega arith
 
 pub returns-clause-row : goal.returns-clause-row
-returns-clause-row c = λ s n after left given.
+returns-clause-row g c = λ s n after fit left given.
     let paused = paused_next s n c.args.self.now after left c.args.demands.now given c.note.new.self c.note.ensures.all_orders c.note.ensures.all_receipts c.note.ensures.all_shipments c.note.ensures.orders c.note.ensures.receipts c.note.ensures.shipments in
     let demanded = demanded_next s n c.args.self.now after left c.args.demands.now given c.add_demands.new.demanded (c.add_demands.ensures.all ∙ ap length c.deref_mut-2.ensures.value)
     (subst (λ (xs : List ℕ). (k : ℕ) → k < length xs → slice_index c.add_demands.new.demanded k ≡ slice_index xs k + slice_index c.args.demands.now k) c.deref_mut-2.ensures.value c.add_demands.ensures.each) in
     let so_far = with_items_is c.args.self.now.demanded c.add_demands.new.demanded (c.add_demands.ensures.all ∙ c.deref_mut-2.ensures.len) in
-    let holds = c.run_period.ensures.holds s n
+    let holds = c.in_ok-run_period.ensures.holds s n
     (ready_now s n c.args.self.now after left c.args.demands.now given c.deref_mut-3.result.now c.deref-2.result.now c.deref-3.result.now c.add_demands.new.demanded c.note.new.self
-    c.deref_mut-3.ensures.value c.deref-2.ensures.value (c.deref-3.ensures.value ∙ so_far) demanded paused) in
-    let nodes = with_items_is c.args.self.now.nodes c.run_period.new.nodes (c.run_period.ensures.all ∙ c.deref_mut-3.ensures.len) in
+    c.deref_mut-3.ensures.value c.deref-2.ensures.value (c.deref-3.ensures.value ∙ so_far) demanded paused (map (λ b. (g.dyn-1.0.entry b.vtable).1.meaning b.value) c.args.rules.now) c.args.caps.now fit) in
+    let nodes = with_items_is c.args.self.now.nodes c.run_period.new.nodes (c.in_ok-run_period.ensures.all ∙ c.deref_mut-3.ensures.len) in
     let ordered = with_items_is c.args.self.now.ordered c.note_ordered.new.ordered (c.note_ordered.ensures.all ∙ c.deref_mut.ensures.len) in
     let before : (k : ℕ) → k < length c.args.self.now.nodes.items → slice_index c.note_ordered.new.ordered k ≡ (node c.args.self.now.nodes.items k).ordered =
     subst (λ (xs : List Holding). (k : ℕ) → k < length xs → slice_index c.note_ordered.new.ordered k ≡ (node xs k).ordered) c.deref.ensures.value c.note_ordered.ensures.each in
@@ -72,15 +72,15 @@ returns-clause-row c = λ s n after left given.
     with_items_is c.args.row.now.lines c.write_lines.new.lines (c.write_lines.ensures.all ∙ c.deref_mut-4.ensures.len) ∙ same_row
 
 pub returns-clause-stands : goal.returns-clause-stands
-returns-clause-stands c = λ s n after left given.
+returns-clause-stands g c = λ s n after fit left given.
     let paused = paused_next s n c.args.self.now after left c.args.demands.now given c.note.new.self c.note.ensures.all_orders c.note.ensures.all_receipts c.note.ensures.all_shipments c.note.ensures.orders c.note.ensures.receipts c.note.ensures.shipments in
     let demanded = demanded_next s n c.args.self.now after left c.args.demands.now given c.add_demands.new.demanded (c.add_demands.ensures.all ∙ ap length c.deref_mut-2.ensures.value)
     (subst (λ (xs : List ℕ). (k : ℕ) → k < length xs → slice_index c.add_demands.new.demanded k ≡ slice_index xs k + slice_index c.args.demands.now k) c.deref_mut-2.ensures.value c.add_demands.ensures.each) in
     let so_far = with_items_is c.args.self.now.demanded c.add_demands.new.demanded (c.add_demands.ensures.all ∙ c.deref_mut-2.ensures.len) in
-    let holds = c.run_period.ensures.holds s n
+    let holds = c.in_ok-run_period.ensures.holds s n
     (ready_now s n c.args.self.now after left c.args.demands.now given c.deref_mut-3.result.now c.deref-2.result.now c.deref-3.result.now c.add_demands.new.demanded c.note.new.self
-    c.deref_mut-3.ensures.value c.deref-2.ensures.value (c.deref-3.ensures.value ∙ so_far) demanded paused) in
-    let nodes = with_items_is c.args.self.now.nodes c.run_period.new.nodes (c.run_period.ensures.all ∙ c.deref_mut-3.ensures.len) in
+    c.deref_mut-3.ensures.value c.deref-2.ensures.value (c.deref-3.ensures.value ∙ so_far) demanded paused (map (λ b. (g.dyn-1.0.entry b.vtable).1.meaning b.value) c.args.rules.now) c.args.caps.now fit) in
+    let nodes = with_items_is c.args.self.now.nodes c.run_period.new.nodes (c.in_ok-run_period.ensures.all ∙ c.deref_mut-3.ensures.len) in
     let ordered = with_items_is c.args.self.now.ordered c.note_ordered.new.ordered (c.note_ordered.ensures.all ∙ c.deref_mut.ensures.len) in
     let before : (k : ℕ) → k < length c.args.self.now.nodes.items → slice_index c.note_ordered.new.ordered k ≡ (node c.args.self.now.nodes.items k).ordered =
     subst (λ (xs : List Holding). (k : ℕ) → k < length xs → slice_index c.note_ordered.new.ordered k ≡ (node xs k).ordered) c.deref.ensures.value c.note_ordered.ensures.each in
@@ -104,3 +104,34 @@ returns-clause-stands c = λ s n after left given.
     refl
     c.sum_costs.result cost c.sum_costs.ensures.small
     refl
+
+pub returns-clause-within : goal.returns-clause-within
+returns-clause-within g c = λ s n after fit left given.
+    let paused = paused_next s n c.args.self.now after left c.args.demands.now given c.note.new.self c.note.ensures.all_orders c.note.ensures.all_receipts c.note.ensures.all_shipments c.note.ensures.orders c.note.ensures.receipts c.note.ensures.shipments in
+    let demanded = demanded_next s n c.args.self.now after left c.args.demands.now given c.add_demands.new.demanded (c.add_demands.ensures.all ∙ ap length c.deref_mut-2.ensures.value)
+    (subst (λ (xs : List ℕ). (k : ℕ) → k < length xs → slice_index c.add_demands.new.demanded k ≡ slice_index xs k + slice_index c.args.demands.now k) c.deref_mut-2.ensures.value c.add_demands.ensures.each) in
+    let so_far = with_items_is c.args.self.now.demanded c.add_demands.new.demanded (c.add_demands.ensures.all ∙ c.deref_mut-2.ensures.len) in
+    c.in_ok-run_period.ensures.within s n
+    (ready_now s n c.args.self.now after left c.args.demands.now given c.deref_mut-3.result.now c.deref-2.result.now c.deref-3.result.now c.add_demands.new.demanded c.note.new.self
+    c.deref_mut-3.ensures.value c.deref-2.ensures.value (c.deref-3.ensures.value ∙ so_far) demanded paused (map (λ b. (g.dyn-1.0.entry b.vtable).1.meaning b.value) c.args.rules.now) c.args.caps.now fit)
+
+pub returns-clause-answered : goal.returns-clause-answered
+returns-clause-answered g c = λ s n after fit left given.
+    let paused = paused_next s n c.args.self.now after left c.args.demands.now given c.note.new.self c.note.ensures.all_orders c.note.ensures.all_receipts c.note.ensures.all_shipments c.note.ensures.orders c.note.ensures.receipts c.note.ensures.shipments in
+    let demanded = demanded_next s n c.args.self.now after left c.args.demands.now given c.add_demands.new.demanded (c.add_demands.ensures.all ∙ ap length c.deref_mut-2.ensures.value)
+    (subst (λ (xs : List ℕ). (k : ℕ) → k < length xs → slice_index c.add_demands.new.demanded k ≡ slice_index xs k + slice_index c.args.demands.now k) c.deref_mut-2.ensures.value c.add_demands.ensures.each) in
+    let so_far = with_items_is c.args.self.now.demanded c.add_demands.new.demanded (c.add_demands.ensures.all ∙ c.deref_mut-2.ensures.len) in
+    c.in_ok-run_period.ensures.answered s n
+    (ready_now s n c.args.self.now after left c.args.demands.now given c.deref_mut-3.result.now c.deref-2.result.now c.deref-3.result.now c.add_demands.new.demanded c.note.new.self
+    c.deref_mut-3.ensures.value c.deref-2.ensures.value (c.deref-3.ensures.value ∙ so_far) demanded paused (map (λ b. (g.dyn-1.0.entry b.vtable).1.meaning b.value) c.args.rules.now) c.args.caps.now fit)
+
+pub returns-in_err-run_period-clause-over : goal.returns-in_err-run_period-clause-over
+returns-in_err-run_period-clause-over g c = λ s n after fit left given.
+    let paused = paused_next s n c.args.self.now after left c.args.demands.now given c.note.new.self c.note.ensures.all_orders c.note.ensures.all_receipts c.note.ensures.all_shipments c.note.ensures.orders c.note.ensures.receipts c.note.ensures.shipments in
+    let demanded = demanded_next s n c.args.self.now after left c.args.demands.now given c.add_demands.new.demanded (c.add_demands.ensures.all ∙ ap length c.deref_mut-2.ensures.value)
+    (subst (λ (xs : List ℕ). (k : ℕ) → k < length xs → slice_index c.add_demands.new.demanded k ≡ slice_index xs k + slice_index c.args.demands.now k) c.deref_mut-2.ensures.value c.add_demands.ensures.each) in
+    let so_far = with_items_is c.args.self.now.demanded c.add_demands.new.demanded (c.add_demands.ensures.all ∙ c.deref_mut-2.ensures.len) in
+    let is = c.in_err-run_period.ensures.over s n
+    (ready_now s n c.args.self.now after left c.args.demands.now given c.deref_mut-3.result.now c.deref-2.result.now c.deref-3.result.now c.add_demands.new.demanded c.note.new.self
+    c.deref_mut-3.ensures.value c.deref-2.ensures.value (c.deref-3.ensures.value ∙ so_far) demanded paused (map (λ b. (g.dyn-1.0.entry b.vtable).1.meaning b.value) c.args.rules.now) c.args.caps.now fit) in
+    search rules
