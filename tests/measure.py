@@ -127,6 +127,17 @@ def shops(periods):
          "sources": [{"from": "outside", "lead": 2}], "demand": {"trace": [period * 37 % 20 for period in range(periods)]}}]}
 
 
+def drawn_shops(periods, greatest=20):
+    """One shop whose demand is drawn."""
+    return {"kind": "network", "periods": periods, "seed": 1, "nodes": [
+        {"name": "shop", "initial": 50, "holding": 1, "stockout": 10, "rule": {"base": 60},
+         "sources": [{"from": "outside", "lead": 2}], "demand": {"uniform": [0, greatest]}}]}
+
+
+def drawn_demands(greatest):
+    return drawn_shops(10000, greatest)
+
+
 def tree(nodes, periods=1000):
     """Shops that order from depots, eight from each, and the depots from one plant."""
     shops = max(1, (nodes - 1) * 8 // 9)
@@ -173,6 +184,8 @@ ROWS = [
     ("`check`, serial of 2, 4, 8 echelons on 200 positions", "check", stages, (2, 4, 8)),
     ("`solve`, serial of 5, 10, 20 demands on 400 positions", "solve", stage_demands, (5, 10, 20)),
     ("`simulate`, one shop for 100, 1,000, 10,000 periods", "simulate", shops, (100, 1000, 10000)),
+    ("`simulate`, one shop of drawn demand for 100, 1,000, 10,000 periods", "simulate", drawn_shops, (100, 1000, 10000)),
+    ("`simulate`, 10,000 draws from laws up to 100, 1,000, 10,000", "simulate", drawn_demands, (100, 1000, 10000)),
     ("`simulate`, trees of 10, 30, 64 nodes for 1,000 periods", "simulate", tree, (10, 30, 64)),
     ("reading 28, 56, 112 laws of 10,001 demands", "solve", wide_laws, (28, 56, 112)),
     ("`demand`, lead time 8, greatest demand 100, 200, 400", "demand", long_lead, (100, 200, 400)),
