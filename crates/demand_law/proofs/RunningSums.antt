@@ -1,9 +1,13 @@
 -- The sums of weights up to each demand, and the first that passes a number.
-use Rattle.std.proofs.Common.{◌≡◌, ℕ, zero, suc, ◌+◌, ◌-◌, ◌<◌, ◌≤◌, List, [], ◌∷◌, length, sum, take, slice_index_or, cond, ◌∙◌, ap, subst, sym, true, false, leb, leb-true, leb-false, ◌⊎◌, inl, inr, arith, mul-le-mul_right, min, ◌*◌, ◌/◌, ◌^◌}
+use Rattle.std.proofs.Common.{◌≡◌, ◌++◌, map, drop, set, get_or, slice_set, Fits, ℕ, zero, suc, ◌+◌, ◌-◌, ◌<◌, ◌≤◌, List, [], ◌∷◌, length, sum, take, slice_index_or, cond, ◌∙◌, ap, subst, sym, true, false, leb, leb-true, leb-false, ◌⊎◌, inl, inr, arith, mul-le-mul_right, min, ◌*◌, ◌/◌, ◌^◌}
 use Rattle.std.specs.List.Sorted.{IsNonDecreasingBy, IsPartitionPoint}
 use Rattle.std.proofs.lemmas.Bool.{cases_lt, lt-ltb, le-ltb}
-use Rattle.std.proofs.lemmas.List.{take_all}
-use Rattle.std.proofs.lemmas.List.FromFn.{length-map-range_with_len, get_or-map-range_with_len}
+use Rattle.std.specs.Int.{w128}
+use Rattle.std.specs.List.{range_with_len}
+use Rattle.std.proofs.Math.Seq.{drop-cons, drop-length, set-append_seam, get_or-append_seam, append_snoc}
+use Rattle.std.proofs.lemmas.List.{take_all, append-nil}
+use Rattle.std.proofs.lemmas.List.Sums.{sum_by_more, sum_by_more_le}
+use Rattle.std.proofs.lemmas.List.FromFn.{length-map-range_with_len, get_or-map-range_with_len, map-range_with_len_more}
 use Rattle.demand_law.specs.Law.{IsLaw, greatest_of, upto_of, running_sums}
 use Rattle.demand_law.specs.LawSums.{sum_positive}
 use Rattle.demand_law.specs.WeightedSums.{sum-cons}
@@ -16,6 +20,70 @@ length-running_sums ws = length-map-range_with_len (upto_of ws) 0 (length ws)
 pub running_sums-at : (ws : List ℕ) (d e : ℕ) → d < length ws → slice_index_or (running_sums ws) d e ≡ upto_of ws d
 unfolding running_sums
 running_sums-at ws d e lt = get_or-map-range_with_len (upto_of ws) 0 (length ws) d d e lt (omega arith)
+
+-- ---- weights that become sums, from the first on
+-- up to a place they are sums, behind it they are still weights
+abbrev pub AddedSoFar : (ws now : List ℕ) (place total : ℕ) → Type 0
+AddedSoFar ws now place total =
+    (total ≡ sum (take place ws)) × (now ≡ map (upto_of ws) (range_with_len 0 place) ++ drop place ws)
+
+abbrev sums_before : List ℕ → ℕ → List ℕ
+sums_before ws place = map (upto_of ws) (range_with_len 0 place)
+
+at_seam : (ws now : List ℕ) (place total : ℕ) → place < length ws → AddedSoFar ws now place total → now ≡ sums_before ws place ++ get_or ws place 0 ∷ drop (suc place) ws
+at_seam ws now place total lt so_far = so_far.1 ∙ ap (λ xs. sums_before ws place ++ xs) (drop-cons ws place 0 lt)
+
+length-sums_before : (ws : List ℕ) (place : ℕ) → length (sums_before ws place) ≡ place
+length-sums_before ws place = length-map-range_with_len (upto_of ws) 0 place
+
+weight_here : (ws now : List ℕ) (place total : ℕ) → place < length ws → AddedSoFar ws now place total → slice_index_or now place 0 ≡ get_or ws place 0
+weight_here ws now place total lt so_far =
+    ap (λ xs. get_or xs place 0) (at_seam ws now place total lt so_far)
+    ∙ ap (λ n. get_or (sums_before ws place ++ get_or ws place 0 ∷ drop (suc place) ws) n 0) (sym (length-sums_before ws place))
+    ∙ get_or-append_seam (sums_before ws place) (get_or ws place 0) (drop (suc place) ws) 0
+
+sum_here : (ws now : List ℕ) (place total : ℕ) → place < length ws → AddedSoFar ws now place total → total + slice_index_or now place 0 ≡ upto_of ws place
+sum_here ws now place total lt so_far =
+    ap (λ n. n + slice_index_or now place 0) so_far.0
+    ∙ ap (λ n. sum (take place ws) + n) (weight_here ws now place total lt so_far)
+    ∙ sym (sum_by_more (λ x. x) ws place 0 lt)
+
+pub added_fits : (ws now : List ℕ) (place total : ℕ) → place < length ws → sum ws < 2 ^ 128 → AddedSoFar ws now place total → Fits w128 (total + slice_index_or now place 0)
+added_fits ws now place total lt most so_far =
+    omega (arith, most, so_far.0, weight_here ws now place total lt so_far, sum_by_more_le (λ x. x) ws place 0 lt)
+
+pub added_up : (ws now : List ℕ) (place total : ℕ) → place < length ws → AddedSoFar ws now place total → AddedSoFar ws (slice_set now place (total + slice_index_or now place 0)) (place + 1) (total + slice_index_or now place 0)
+added_up ws now place total lt so_far = (here, listed)
+  where
+    here : total + slice_index_or now place 0 ≡ upto_of ws place
+    here = sum_here ws now place total lt so_far
+
+    before : List ℕ
+    before = sums_before ws place
+
+    rest : List ℕ
+    rest = drop (suc place) ws
+
+    next : suc place ≡ place + 1
+    next = omega arith
+
+    listed : slice_set now place (total + slice_index_or now place 0) ≡ map (upto_of ws) (range_with_len 0 (place + 1)) ++ drop (place + 1) ws
+    listed =
+        ap (λ x. set now place x) here
+        ∙ ap (λ xs. set xs place (upto_of ws place)) (at_seam ws now place total lt so_far)
+        ∙ ap (λ n. set (before ++ get_or ws place 0 ∷ rest) n (upto_of ws place)) (sym (length-sums_before ws place))
+        ∙ set-append_seam before (get_or ws place 0) rest (upto_of ws place)
+        ∙ sym (append_snoc before (upto_of ws place) rest)
+        ∙ ap (λ xs. xs ++ rest) (sym (map-range_with_len_more (upto_of ws) 0 place place (omega arith)))
+        ∙ ap (λ n. map (upto_of ws) (range_with_len 0 (place + 1)) ++ drop n ws) next
+
+pub added_whole : (ws now : List ℕ) (place total : ℕ) → place ≡ length ws → AddedSoFar ws now place total → now ≡ running_sums ws
+unfolding running_sums
+added_whole ws now place total all so_far =
+    so_far.1
+    ∙ ap (λ n. map (upto_of ws) (range_with_len 0 n) ++ drop n ws) all
+    ∙ ap (λ xs. map (upto_of ws) (range_with_len 0 (length ws)) ++ xs) (drop-length ws)
+    ∙ append-nil _
 
 -- ---- growth
 take_grows : (ws : List ℕ) (i j : ℕ) → i ≤ j → sum (take i ws) ≤ sum (take j ws)

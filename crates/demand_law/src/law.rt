@@ -59,17 +59,25 @@ impl Model for Law {
     ghost invariant = { λ l. IsLaw l.weights.items × (l.sums.items ≡ running_sums l.weights.items) };
 }
 
+// Makes each weight the sum of those up to its place.
+fn add_up(weights: &mut [u128])
+    requires { sum weights.old < 2 ^ 128 }
+    ensures { weights.new ≡ running_sums weights.old }
+{
+    let mut sum = 0;
+    for place in 0..weights.len() {
+        sum += weights[place];
+        weights[place] = sum;
+    }
+}
+
 // The sums of the weights up to each place.
 fn running_sums(alloc: Global, weights: &[u128]) -> Result<Vec<u128>, AllocError>
     requires { sum weights.now < 2 ^ 128 }
     ensures { IfOk result (λ sums. sums.items ≡ running_sums weights.now) }
 {
-    let mut sums = Vec::with_capacity(alloc, weights.len())?;
-    let mut sum = 0;
-    for weight in weights {
-        sum += *weight;
-        sums.push(sum)?;
-    }
+    let mut sums = weights.to_vec(alloc)?;
+    add_up(&mut sums);
     Ok(sums)
 }
 
