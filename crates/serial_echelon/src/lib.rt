@@ -2,5 +2,7 @@
 #![tactic(auto)]
 
 mod solve;
+#[cfg(test)]
+mod tests;
 
 pub use solve::solve_serial;
