@@ -17,8 +17,6 @@ mod laws;
 mod lots;
 mod names;
 mod network;
-#[cfg(test)]
-mod network_tests;
 mod network_values;
 mod news;
 mod nodes;
@@ -29,8 +27,6 @@ mod read;
 mod rules;
 mod serial;
 mod sources;
-#[cfg(test)]
-mod tests;
 mod write;
 mod write_values;
 

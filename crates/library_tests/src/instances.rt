@@ -1,5 +1,5 @@
 // Worked instances and refusals.
-use crate::{InstanceErr, InstanceFault, read_instance, write_instance};
+use instance_json::{InstanceErr, InstanceFault, read_instance, write_instance};
 use demand_law::LawFault;
 use std::alloc::Global;
 use std::process::Abort;

@@ -1,5 +1,5 @@
 // Worked networks and refusals.
-use crate::{InstanceErr, InstanceFault, Key, KeyList, read_instance, write_instance};
+use instance_json::{InstanceErr, InstanceFault, Key, KeyList, read_instance, write_instance};
 use std::alloc::Global;
 use std::process::Abort;
 
