@@ -44,7 +44,7 @@ fn two_periods(alloc: Global, most: Option<u64>) -> Result<Finite, Fail>
     })
 }
 
-fn verdict_on(
+pub(crate) fn verdict_on(
     rt: &impl Abort,
     alloc: Global,
     most: Option<u64>,

@@ -4,6 +4,8 @@
 
 mod average;
 mod check;
+#[cfg(test)]
+mod damage_tests;
 mod finite;
 #[cfg(test)]
 mod finite_tests;
