@@ -27,12 +27,40 @@ impl HouseRule for QuadrupleRule {
     }
 }
 
+/// Orders ten units and the units seen in the period.
+#[derive(Drop)]
+struct TenMoreRule;
+
+impl HouseRule for TenMoreRule {
+    ghost use Rattle.std.specs.Prelude.{◌+◌, map};
+
+    ghost meaning = { λ _. record { most = 10; replies = λ asks. map (λ a. 10 + a.seen) asks } };
+
+    fn ask(&mut self, _position: i64, seen: u64) -> u64 {
+        10 + seen
+    }
+
+    fn cap(&self) -> u64 {
+        10
+    }
+}
+
 // A shop whose customers demand 1, 2 and 3, and one whose customers demand 3 at once.
 const RISING: &str =
     "{\"kind\":\"network\",\"periods\":3,\"nodes\":[{\"name\":\"shop\",\"initial\":5,\"holding\":1,\"stockout\":10,\"rule\":{\"house\":0,\"cap\":10},\"sources\":[{\"from\":\"outside\",\"lead\":1}],\"demand\":{\"trace\":[1,2,3]}}]}";
 
 const SUDDEN: &str =
     "{\"kind\":\"network\",\"periods\":3,\"nodes\":[{\"name\":\"shop\",\"initial\":5,\"holding\":1,\"stockout\":10,\"rule\":{\"house\":0,\"cap\":10},\"sources\":[{\"from\":\"outside\",\"lead\":1}],\"demand\":{\"trace\":[3,2,1]}}]}";
+
+// Shops whose customers demand one unit, in the first, the second and the third period.
+const FIRST: &str =
+    "{\"kind\":\"network\",\"periods\":3,\"nodes\":[{\"name\":\"shop\",\"initial\":5,\"holding\":1,\"stockout\":10,\"rule\":{\"house\":0,\"cap\":10},\"sources\":[{\"from\":\"outside\",\"lead\":1}],\"demand\":{\"trace\":[1,0,0]}}]}";
+
+const LATER: &str =
+    "{\"kind\":\"network\",\"periods\":3,\"nodes\":[{\"name\":\"shop\",\"initial\":5,\"holding\":1,\"stockout\":10,\"rule\":{\"house\":0,\"cap\":10},\"sources\":[{\"from\":\"outside\",\"lead\":1}],\"demand\":{\"trace\":[0,1,0]}}]}";
+
+const LAST: &str =
+    "{\"kind\":\"network\",\"periods\":3,\"nodes\":[{\"name\":\"shop\",\"initial\":5,\"holding\":1,\"stockout\":10,\"rule\":{\"house\":0,\"cap\":10},\"sources\":[{\"from\":\"outside\",\"lead\":1}],\"demand\":{\"trace\":[0,0,1]}}]}";
 
 // One that keeps within the cap, also in a period in which its orders pause.
 const STEADY: &str =
@@ -48,16 +76,21 @@ const TWO_PERIODS: &str =
 const PAUSED: &str =
     "period 1 node shop seen 1 order 4 made 0 stock 4 owed 0 due 0 cost 4\nperiod 2 node shop seen 2 order 0 made 4 stock 6 owed 0 due 0 cost 6\ntotal 10\n";
 
+const ONE_QUIET: &str = "period 1 node shop seen 0 order 10 made 0 stock 5 owed 0 due 0 cost 5\n";
+
+const TWO_QUIET: &str =
+    "period 1 node shop seen 0 order 10 made 0 stock 5 owed 0 due 0 cost 5\nperiod 2 node shop seen 0 order 10 made 10 stock 15 owed 0 due 0 cost 15\n";
+
 fn no_memory(_: Memory) -> AllocError {
     AllocError
 }
 
-// Runs a network with one rule of this cap, and compares the status, the output and the message.
+// Runs a network with one rule, and compares the status, the output and the message.
 fn ends(
     rt: &impl Abort,
     alloc: Global,
     network: &str,
-    cap: u64,
+    rule: Box<dyn HouseRule>,
     status: Status,
     text: &str,
     message: &str,
@@ -69,7 +102,7 @@ fn ends(
     let mut out = MemSink::new(alloc, 100, &[], 1000).map_err(no_memory)?;
     let mut err = MemSink::new(alloc, 100, &[], 1000).map_err(no_memory)?;
     let mut rules: Vec<Box<dyn HouseRule>> = Vec::new(alloc);
-    rules.push(Box::new(alloc, QuadrupleRule { cap })?)?;
+    rules.push(rule)?;
     let ended = stock(
         alloc, &words, &mut input, &mut files, &mut out, &mut err, rules,
     );
@@ -115,7 +148,21 @@ fn rules_of_the_callers_own(rt: HostRuntime) -> Result<(), Fail> {
     ];
     let alloc = rt.alloc();
     for (network, cap, status, text, message) in rows {
-        ends(&rt, alloc, network, cap, status, text, message)?;
+        let rule: Box<dyn HouseRule> = Box::new(alloc, QuadrupleRule { cap })?;
+        ends(&rt, alloc, network, rule, status, text, message)?;
+    }
+    Ok(())
+}
+
+// An answer of 11 in the first, the second or the third period, behind answers of the cap itself: the network, and the
+// lines of the periods before.
+#[test]
+fn an_answer_past_the_cap_in_each_period(rt: HostRuntime) -> Result<(), Fail> {
+    let message = "stock: node 1: house rule answered 11, its cap is 10\n";
+    let alloc = rt.alloc();
+    for (network, text) in [(FIRST, ""), (LATER, ONE_QUIET), (LAST, TWO_QUIET)] {
+        let rule: Box<dyn HouseRule> = Box::new(alloc, TenMoreRule)?;
+        ends(&rt, alloc, network, rule, Status::House, text, message)?;
     }
     Ok(())
 }

@@ -9,6 +9,8 @@ mod check;
 mod commands;
 mod demand;
 #[cfg(test)]
+mod fault_tests;
+#[cfg(test)]
 mod house_tests;
 mod inputs;
 #[cfg(test)]
