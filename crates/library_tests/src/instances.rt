@@ -1,6 +1,6 @@
 // Worked instances and refusals.
-use instance_json::{InstanceErr, InstanceFault, read_instance, write_instance};
 use demand_law::LawFault;
+use instance_json::{InstanceErr, InstanceFault, read_instance, write_instance};
 use std::alloc::Global;
 use std::process::Abort;
 

@@ -8,20 +8,12 @@ mod certify;
 mod check;
 mod commands;
 mod demand;
-#[cfg(test)]
-mod fault_tests;
-#[cfg(test)]
-mod house_tests;
 mod inputs;
-#[cfg(test)]
-mod run_tests;
 mod runs;
 mod simulate;
 mod solve;
 mod solvers;
 mod status;
-#[cfg(test)]
-mod tests;
 mod top;
 mod trial;
 mod words;

@@ -3,7 +3,6 @@ ghost use Rattle.std.specs.Prelude.{IfOk, map};
 ghost use Rattle.decision_model.specs.Network.{IsValidNetwork};
 ghost use Rattle.stock_cli.specs.Runs.{StandsForSome};
 
-use crate::{RunErr, run_rows};
 use decision_model::{Instance, Network};
 use fraction128::Memory;
 use instance_json::read_instance;
@@ -11,6 +10,7 @@ use network_sim::{Row, Sim};
 use node_state::HouseRule;
 use std::alloc::{AllocError, Global};
 use std::test::Fail;
+use stock_cli::{RunErr, run_rows};
 use stock_edge::MemSink;
 
 const SHOP: &str =

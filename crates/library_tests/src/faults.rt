@@ -1,9 +1,11 @@
 // Runs in which each read, and then each write, fails in turn.
-use crate::Status;
-use crate::tests::{Ended, Given, LOTS, LOTS_CERTIFICATE, NETWORK, NEWSVENDOR, REPORT, TABLE, run};
+use crate::commands::{
+    Ended, Given, LOTS, LOTS_CERTIFICATE, NETWORK, NEWSVENDOR, REPORT, TABLE, run,
+};
 use std::alloc::Global;
 use std::process::Abort;
 use std::test::Fail;
+use stock_cli::Status;
 
 // A run, and its text where nothing fails.
 #[derive(Clone, Copy)]

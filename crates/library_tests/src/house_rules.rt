@@ -1,10 +1,10 @@
 // Networks with an order rule that the caller hands in.
-use crate::{Status, stock};
 use fraction128::Memory;
 use node_state::HouseRule;
 use std::alloc::{AllocError, Global};
 use std::process::Abort;
 use std::test::Fail;
+use stock_cli::{Status, stock};
 use stock_edge::{MemSink, MemSource, QuietFiles};
 
 /// Orders four times the units seen in the period.

@@ -1,7 +1,7 @@
 use Rattle.std.proofs.Common.{List, map}
 use Rattle.node_state.specs.Draws.{own_demand}
 use Rattle.node_state.specs.Handed.{Handed}
-use Rattle.stock_cli.proofs.run_tests.simulator.Goals as goal
+use Rattle.library_tests.proofs.network_runs.simulator.Goals as goal
 
 pub returns-in-Ok : goal.returns-in-Ok
 returns-in-Ok g c = record {
