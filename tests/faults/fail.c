@@ -12,8 +12,10 @@
 //   FAIL_REPORT      the name of a file of some zero bytes, as many as a Report has, which comes to hold one
 //
 // It is for programs of one thread on Linux with the C library of GNU, whose own allocator it calls.
+#define _GNU_SOURCE
 #include <errno.h>
 #include <fcntl.h>
+#include <link.h>
 #include <stdarg.h>
 #include <stdint.h>
 #include <stdlib.h>
@@ -32,8 +34,8 @@ enum { READ, WRITE, ERROR, MEMORY, OPEN, KINDS };
 static const char *const NAMES[KINDS] = {"FAIL_READ", "FAIL_WRITE", "FAIL_ERROR", "FAIL_MEMORY", "FAIL_OPEN"};
 
 // What the runner reads: how many calls there were and how many of them failed, by kinds; of the last failed read or
-// open which file it was of, counted as they are opened from 1, or 0 for standard input; and where the last request
-// that failed was made.
+// open which file it was of, counted as they are opened from 1, or 0 for standard input; and from where in the program
+// the last refused memory was asked for, as its tools count its bytes.
 typedef struct {
     uint64_t calls[KINDS];
     uint64_t failed[KINDS];
@@ -44,7 +46,7 @@ typedef struct {
 static Report unshared;
 static Report *report = &unshared;
 static uint64_t places[KINDS];
-static uint64_t piece, all_the_rest, takes_nothing, interrupts, started;
+static uint64_t piece, all_the_rest, takes_nothing, interrupts, started, program;
 static int interrupted[KINDS];
 
 static uint64_t number_of(const char *name) {
@@ -66,6 +68,14 @@ static void share_report(void) {
     }
 }
 
+// Where the program lies in memory: it is the first of what is loaded.
+static int note_program(struct dl_phdr_info *loaded, size_t size, void *nothing) {
+    (void)size;
+    (void)nothing;
+    program = loaded->dlpi_addr;
+    return 1;
+}
+
 __attribute__((constructor)) static void start(void) {
     for (int kind = 0; kind < KINDS; kind++) {
         places[kind] = number_of(NAMES[kind]);
@@ -74,6 +84,7 @@ __attribute__((constructor)) static void start(void) {
     all_the_rest = number_of("FAIL_REST");
     takes_nothing = number_of("FAIL_NOTHING");
     interrupts = number_of("FAIL_INTERRUPT");
+    dl_iterate_phdr(note_program, NULL);
     share_report();
     started = 1;
 }
@@ -141,7 +152,7 @@ static int is_refused(void *caller) {
     if (!fails(MEMORY)) {
         return 0;
     }
-    report->caller = (uint64_t)caller;
+    report->caller = (uint64_t)caller - program;
     errno = ENOMEM;
     return 1;
 }
