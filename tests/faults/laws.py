@@ -2,6 +2,7 @@
 
 A law is a list of weights: the weight at place d is that of the demand d, and the last one isn't 0.
 """
+from itertools import accumulate
 from math import comb
 
 
@@ -42,16 +43,19 @@ def laws_of(instance, count):
 
 
 def law_of_sum(laws):
-    """The law of the sum of independent demands, one of each law."""
-    whole = [1]
+    """The law of the sum of independent demands, one of each law.
+
+    The weights of a law are the digits of one whole number, so that a product of numbers adds up all pairs of demands.
+    """
+    total = 1
     for law in laws:
-        terms = [(demand, weight) for demand, weight in enumerate(law) if weight]
-        longer = [0] * (len(whole) + len(law) - 1)
-        for place, earlier in enumerate(whole):
-            for demand, weight in terms:
-                longer[place + demand] += earlier * weight
-        whole = longer
-    return whole
+        total *= sum(law)
+    width = total.bit_length() // 8 + 1
+    product = 1
+    for law in laws:
+        product *= int.from_bytes(b"".join(weight.to_bytes(width, "little") for weight in law), "little")
+    digits = product.to_bytes(width * (1 + sum(len(law) - 1 for law in laws)), "little")
+    return [int.from_bytes(digits[place:place + width], "little") for place in range(0, len(digits), width)]
 
 
 def rates_of(value, places):
@@ -64,7 +68,20 @@ def greatest_of(laws):
     return max(len(law) - 1 for law in laws)
 
 
-def expected_cost(law, position, holding, stockout):
-    """The cost of a position less a demand of the law, times the sum of the weights."""
-    return sum(weight * (holding * max(position - demand, 0) + stockout * max(demand - position, 0))
-               for demand, weight in enumerate(law) if weight)
+class StockCost:
+    """The cost of positions less a demand of a law, times the sum of the law's weights."""
+
+    def __init__(self, law, holding, stockout):
+        self.holding, self.stockout = holding, stockout
+        # For each position from 0 on: the weights of the demands up to it, and what they add up to.
+        self.counts = list(accumulate(law))
+        self.sums = list(accumulate(demand * weight for demand, weight in enumerate(law)))
+
+    def at(self, position):
+        count = moment = 0
+        if position >= 0:
+            count = self.counts[min(position, len(self.counts) - 1)]
+            moment = self.sums[min(position, len(self.sums) - 1)]
+        left = position * count - moment
+        lacking = (self.sums[-1] - moment) - position * (self.counts[-1] - count)
+        return self.holding * left + self.stockout * lacking

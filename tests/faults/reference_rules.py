@@ -7,7 +7,7 @@ breaks, or None. Values are whole numbers over the scales of that document, what
 from collections import deque
 from math import gcd
 
-from laws import expected_cost, greatest_of, laws_of, law_of, law_of_sum, rates_of
+from laws import StockCost, greatest_of, law_of, law_of_sum, laws_of, rates_of
 
 
 def head_of(instance):
@@ -27,7 +27,7 @@ class Newsvendor:
     def broken(self, word, numbers):
         if word == "q":
             return self.level_broken(numbers[0])
-        if word == "cost" and numbers[0] != expected_cost(self.law, self.level, self.holding, self.stockout):
+        if word == "cost" and numbers[0] != StockCost(self.law, self.holding, self.stockout).at(self.level):
             return 5
         return None
 
@@ -157,7 +157,8 @@ class Finite:
         stock_scale = self.b ** (left + 1) * self.weights ** left
         lead_law = law_of_sum(self.laws[self.period - 1:self.period + self.lead])
         law = [(demand, weight) for demand, weight in enumerate(self.laws[self.period - 1]) if weight]
-        self.costs = {y: stock_scale * expected_cost(lead_law, y, self.holding, self.stockout)
+        stock_cost = StockCost(lead_law, self.holding, self.stockout)
+        self.costs = {y: stock_scale * stock_cost.at(y)
                       + self.a * sum(weight * self.values[y - demand] for demand, weight in law)
                       for y in range(self.lowest(self.period), self.cap + 1)}
         self.values = {}
@@ -190,12 +191,15 @@ class Average:
         self.law = law_of(instance["demand"])
         self.weights = sum(self.law)
         self.moving = self.weights - self.law[0]
-        self.lead_law = law_of_sum([self.law] * (self.lead + 1))
+        lead_law = law_of_sum([self.law] * (self.lead + 1))
+        self.greatest = len(lead_law) - 1
+        self.stock_cost = StockCost(lead_law, self.holding, self.stockout)
+        self.terms = [(demand, weight) for demand, weight in enumerate(self.law) if weight and demand]
         self.lower, self.upper = [], []
 
     def greatest_cost(self):
         """The C of the width number."""
-        shortage = max(len(self.lead_law) - 1 - self.floor, 0)
+        shortage = max(self.greatest - self.floor, 0)
         return 1 + self.holding * max(self.cap, 0) + self.stockout * shortage
 
     def broken(self, word, numbers):
@@ -225,12 +229,12 @@ class Average:
 
     def keeping(self, place, entries):
         """What keeping the place is worth until a demand above 0 comes."""
-        cost = expected_cost(self.lead_law, self.floor + place, self.holding, self.stockout)
+        cost = self.stock_cost.at(self.floor + place)
         ahead = (cost * self.denominator - self.number * self.weights ** (self.lead + 1)) * self.moving ** place
-        for demand, weight in enumerate(self.law):
-            if weight and 1 <= demand <= place:
+        for demand, weight in self.terms:
+            if demand <= place:
                 ahead += weight * entries[place - demand] * self.moving ** (demand - 1)
-            elif weight and demand > place:
+            else:
                 ahead += weight * self.ordering(place - 1)
         return ahead
 
