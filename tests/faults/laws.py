@@ -18,7 +18,8 @@ def law_of(value):
         weights = [0] * low + [1] * (high - low + 1)
     else:
         trials, a, b = numbers
-        weights = [comb(trials, k) * a ** k * (b - a) ** (trials - k) for k in range(trials + 1)]
+        chances = [a ** k * (b - a) ** (trials - k) for k in range(trials + 1)]
+        weights = [chance and chance * comb(trials, k) for k, chance in enumerate(chances)]
     while weights[-1] == 0:
         weights.pop()
     return weights

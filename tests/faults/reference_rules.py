@@ -185,6 +185,7 @@ class Finite:
 
 class Average:
     def __init__(self, instance):
+        self.instance = instance
         self.lead, self.setup = instance.get("lead", 0), instance.get("setup", 0)
         self.holding, self.stockout = instance["holding"], instance["stockout"]
         self.floor, self.cap = instance["floor"], instance["cap"]
@@ -202,6 +203,10 @@ class Average:
         shortage = max(self.greatest - self.floor, 0)
         return 1 + self.holding * max(self.cap, 0) + self.stockout * shortage
 
+    def greatest_denominator(self):
+        positions = self.cap - self.floor + 1
+        return positions * self.weights ** (self.lead + 1) * self.moving ** (positions - 1)
+
     def broken(self, word, numbers):
         if word == "g":
             return self.gain_broken(*numbers)
@@ -217,9 +222,7 @@ class Average:
 
     def gain_broken(self, number, denominator):
         self.number, self.denominator = number, denominator
-        positions = self.cap - self.floor + 1
-        most = positions * self.weights ** (self.lead + 1) * self.moving ** (positions - 1)
-        if not 1 <= denominator <= most or gcd(number, denominator) > 1:
+        if not 1 <= denominator <= self.greatest_denominator() or gcd(number, denominator) > 1:
             return 3
         return None if number <= denominator * (self.setup + self.greatest_cost()) else 3
 
@@ -301,10 +304,10 @@ class Serial:
         self.own_scale = self.b ** (left + 1) * self.weights ** left
         self.law = [(demand, weight) for demand, weight in enumerate(self.laws[self.period - 1]) if weight]
 
-    def order_cost(self, y):
-        cost = self.scale * self.unit[self.echelon - 1] * y
+    def order_cost(self, echelon, y):
+        cost = self.scale * self.unit[echelon - 1] * y
         if self.later:
-            values = self.later[self.echelon - 1]
+            values = self.later[echelon - 1]
             cost += self.a * sum(weight * values[y - demand] for demand, weight in self.law)
         return cost
 
@@ -316,7 +319,7 @@ class Serial:
         self.position = self.lowest()
         if not self.lowest() <= level <= self.cap:
             return 3
-        self.order = {y: self.order_cost(y) for y in range(self.lowest(), self.cap + 1)}
+        self.order = {y: self.order_cost(self.echelon, y) for y in range(self.lowest(), self.cap + 1)}
         for y in range(self.lowest(), self.cap):
             step = self.order[y + 1] - self.order[y]
             if (step > 0) if y < level else (step < 0):
@@ -330,10 +333,12 @@ class Serial:
         return self.own_scale * sum(weight * (holding * (x - demand) + lacking * max(demand - x, 0))
                                     for demand, weight in self.law)
 
+    def value(self, position):
+        return (self.own_cost(position) - self.scale * self.unit[self.echelon - 1] * position
+                + self.order[max(position, self.level)] + self.penalty[position])
+
     def value_broken(self, position, value):
-        wanted = (self.own_cost(position) - self.scale * self.unit[self.echelon - 1] * position
-                  + self.order[max(position, self.level)] + self.penalty[position])
-        if value != wanted:
+        if value != self.value(position):
             return 5
         self.now[-1][position] = value
         self.position += 1
