@@ -35,10 +35,10 @@ RANGES = {
                (["end_stockout"], 0, RATE), (["most"], 1, RATE), (["total"], 1, MOST_WEIGHT), (["cap"], 0, None),
                (["start"], None, 1), (["discount"], [1, 1000], [1000, 1000]), (["discount"], [1, 1], None)],
     "average": [(["lead"], 0, 8), (["setup"], 0, 10 ** 9), (["holding"], 0, RATE), (["stockout"], 0, RATE),
-                (["cap"], 0, None), (["floor"], None, 1)],
+                (["cap"], 0, None)],
     "serial": [(["periods"], 1, None), (["holding", 1], 0, RATE), (["unit", 0], 0, RATE), (["stockout"], 0, RATE),
                (["total"], 1, MOST_WEIGHT), (["cap"], 0, None), (["start", 1], 0, 1)],
-    "network": [(["periods"], 2, None), (["seed"], 0, 2 ** 32 - 1)],
+    "network": [(["seed"], 0, 2 ** 32 - 1)],
 }
 NODES = [
     (0, ["initial"], 0, RATE), (0, ["holding"], 0, RATE), (0, ["stockout"], 0, RATE),
@@ -105,11 +105,19 @@ def past_ranges():
            "instance: nodes[5].rule: out of range")
     shop = {"name": "shop", "initial": 0, "holding": 1, "rule": {"base": 1},
             "sources": [{"from": "outside", "lead": 0}]}
+    yield ("a floor above the cap", with_keys("average", floor=1), with_keys("average", floor=2),
+           "instance: cap: out of range")
+    yield ("a network of no period", {"kind": "network", "periods": 1, "nodes": [shop]},
+           {"kind": "network", "periods": 0, "nodes": [shop]}, "instance: periods: out of range")
     yield ("a network of 10,001 periods", {"kind": "network", "periods": 10000, "nodes": [shop]},
            {"kind": "network", "periods": 10001, "nodes": [shop]}, "instance: periods: out of range")
-    for number in (2 ** 32, 2 ** 63, 2 ** 80):
-        yield ("a weight of %d" % number, None, with_keys("newsvendor", demand={"points": [[0, number]]}),
-               "instance: demand: out of range" if number < 2 ** 63 else "instance: demand: wrong type")
+    yield ("a weight past 32 bits", None, with_keys("newsvendor", demand={"points": [[0, 2 ** 32]]}),
+           "instance: demand: out of range")
+    for number in (2 ** 64 - 1, -2 ** 63):
+        yield ("a rate of %d" % number, None, with_keys("newsvendor", holding=number),
+               "instance: holding: out of range")
+    for number in (2 ** 64, -2 ** 63 - 1):
+        yield "a rate of %d" % number, None, with_keys("newsvendor", holding=number), "instance: holding: wrong type"
     yield ("a total that isn't a multiple", with_keys("finite", total=MOST_WEIGHT, demand=certain),
            with_keys("finite", total=MOST_WEIGHT - 1, demand=ONE_OR_NONE),
            "instance: demand: law: does not divide the total")
