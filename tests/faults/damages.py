@@ -91,7 +91,8 @@ def two_numbers_changed(text):
             for one, two in ((1, 1), (1, -1), (-1, 1), (-1, -1)):
                 changed = replaced(text, second, b"%d" % (int(second.group()) + two))
                 changed = replaced(changed, first, b"%d" % (int(first.group()) + one))
-                yield "%s and %s changed by %d and %d" % (first.group().decode(), second.group().decode(), one, two), changed
+                names = first.group().decode(), second.group().decode()
+                yield "%s and %s changed by %d and %d" % (*names, one, two), changed
 
 
 def places_of(value, path=()):
@@ -138,10 +139,10 @@ def gains_changed(instance, text):
 
 def damages_of(instance, text, others, long):
     """All damages of a certificate, each text once, and before them the text as it stands."""
-    limit = None if long else 150
-    sorts = [[("as it stands", text)], gains_changed(instance, text), bytes_changed(text, all_values if long else few_values), bytes_moved(text),
-             lines_moved(text), spread(lines_put_in(text, others), limit),
-             numbers_changed(text, range(-9, 10) if long else ()),
+    limit = None if long else 100
+    sorts = [[("as it stands", text)], gains_changed(instance, text),
+             bytes_changed(text, all_values if long else few_values), bytes_moved(text), lines_moved(text),
+             spread(lines_put_in(text, others), limit), numbers_changed(text, range(-9, 10) if long else ()),
              spread(two_numbers_changed(text), 5000 if long else limit)]
     seen = set()
     for sort in sorts:

@@ -5,9 +5,9 @@
 
 PROGRAM is the program that ./build makes, where none is given; where that isn't there, nothing is run and the exit
 status is 2. The certificates are those that certify writes, which have to be the ones of standards.py. Each damaged
-text is checked by the program and by reference.py, which are both written from docs/FORMAT.md; both have to say the
-same line and rule, with nothing on standard error. The short form takes some values for each
-byte and a fixed spread of the lines and pairs; the long form takes every byte value, and gives each text on standard
+text is checked by the program and by reference.py, which is written from docs/FORMAT.md; both have to say the same
+line and rule, with nothing on standard error. The short form takes some values for each byte and a fixed spread of
+the strange lines and of the pairs of numbers; the long form takes every byte value, and gives each text on standard
 input too. Before that the reference is held against the checks whose answers tests/cases states.
 
 A line is printed for each disagreement, and at the end the counts of each certificate. The exit status is 1 where
@@ -64,7 +64,7 @@ CERTIFICATES = {
         "start": [0, 1]},
     "serial with every key": {
         "kind": "serial", "periods": 2, "holding": [1, 2], "unit": [1, 2], "stockout": 9, "discount": [2, 3],
-        "total": 4, "demand": [{"points": [[0, 1], [2, 3]]}, {"uniform": [0, 1]}], "cap": 2, "start": [-1, 0]},
+        "total": 4, "demand": [{"points": [[0, 1], [2, 3]]}, {"uniform": [0, 1]}], "cap": 1, "start": [-1, 1]},
 }
 
 
