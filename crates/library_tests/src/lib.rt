@@ -1,5 +1,5 @@
-//! Tests of public calls on worked examples, of the crates that are dearest to prove: a crate with tests of its own is
-//! proved twice.
+//! Tests of public calls on worked examples, most of them of the crates that are dearest to prove: a crate with tests of
+//! its own is proved twice.
 #![tactic(auto)]
 
 #[cfg(test)]
@@ -13,4 +13,8 @@ mod instances;
 #[cfg(test)]
 mod network_instances;
 #[cfg(test)]
+mod network_rows;
+#[cfg(test)]
 mod network_runs;
+#[cfg(test)]
+mod serial_systems;

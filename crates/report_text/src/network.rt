@@ -9,9 +9,6 @@ use itoa::Integer;
 use network_sim::{NodeLine, Row};
 use std::alloc::Global;
 
-#[cfg(test)]
-mod tests;
-
 // Appends a number behind its word.
 fn push_field<N: Integer>(out: &mut Text, word: &str, number: N) -> Result<(), Memory>
     ensures { OnOk result (out.new ≡ out.old ++ (word.now ++ N.text number)) }

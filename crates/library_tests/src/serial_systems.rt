@@ -3,9 +3,9 @@ ghost use Rattle.std.specs.Prelude.{◌≡◌, ℕ, ◌≤◌, ◌≤ℤ◌, pos
 ghost use Rattle.decision_model.specs.DemandLaws.{IsDemandLaw, AreDemandLaws};
 ghost use Rattle.decision_model.specs.Serial.{IsReadableSerial};
 
-use crate::solve_serial;
 use decision_model::{Amounts, Instance, Laws, Positions, Serial, grid_fits, width_ok};
 use demand_law::Law;
+use serial_echelon::solve_serial;
 use std::alloc::Global;
 use std::process::Abort;
 use std::test::Fail;

@@ -1,10 +1,10 @@
 // The lines of a period of two nodes, as they are printed.
 ghost use Rattle.std.specs.Prelude.{◌≡◌, IfOk, length};
 
-use crate::{push_total, row_text};
 use decision_model::{Demand, Items, Network, NodeSpec, Rule};
 use fraction128::Text;
 use network_sim::{NodeLine, Row};
+use report_text::{push_total, row_text};
 use std::alloc::Global;
 use std::test::Fail;
 
