@@ -22,3 +22,4 @@ pub mod Begun
 pub mod Going
 pub mod Balanced
 mod Worked
+pub mod OtherDemands
