@@ -281,7 +281,7 @@ fn refuses_an_average_cost_or_a_serial_system(rt: HostRuntime) {
 }
 
 // The text says an instance that is written as this text.
-fn is_written(rt: &impl Abort, alloc: Global, text: &str, written: &str) {
+pub(crate) fn is_written(rt: &impl Abort, alloc: Global, text: &str, written: &str) {
     let Ok(instance) = read_instance(alloc, text.as_bytes()) else {
         panic!(rt; "{text} is refused");
     };

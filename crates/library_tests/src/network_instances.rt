@@ -1,5 +1,6 @@
 // Worked networks and refusals.
-use instance_json::{InstanceErr, InstanceFault, Key, KeyList, read_instance, write_instance};
+use crate::instances::is_written;
+use instance_json::{InstanceErr, InstanceFault, Key, KeyList, read_instance};
 use std::alloc::Global;
 use std::process::Abort;
 
@@ -318,19 +319,24 @@ fn refuses_rules_over_several_keys(rt: HostRuntime) {
     }
 }
 
+// A network, a network with a drawn demand, and one with a rule of the caller's own.
 #[test]
-fn reads_and_writes_a_network(rt: HostRuntime) {
-    let text =
-        "{\"kind\":\"network\",\"periods\":2,\"seed\":7,\"nodes\":[{\"name\":\"shop\",\"initial\":5,\"holding\":1,\"stockout\":10,\"rule\":{\"min\":1,\"max\":5},\"sources\":[{\"from\":\"depot\",\"lead\":1},{\"from\":\"outside\",\"lead\":0,\"order_lead\":2}],\"demand\":{\"trace\":[2,4]}},{\"name\":\"depot\",\"initial\":3,\"holding\":1,\"rule\":{\"reorder\":-1,\"lot\":4},\"sources\":[{\"from\":\"outside\",\"lead\":2}]}],\"pauses\":[{\"node\":\"depot\",\"what\":\"receipts\",\"from\":1,\"to\":2}]}";
-    let written =
-        "{\"kind\":\"network\",\"nodes\":[{\"demand\":{\"trace\":[2,4]},\"holding\":1,\"initial\":5,\"name\":\"shop\",\"rule\":{\"max\":5,\"min\":1},\"sources\":[{\"from\":\"depot\",\"lead\":1,\"order_lead\":0},{\"from\":\"outside\",\"lead\":0,\"order_lead\":2}],\"stockout\":10},{\"holding\":1,\"initial\":3,\"name\":\"depot\",\"rule\":{\"lot\":4,\"reorder\":-1},\"sources\":[{\"from\":\"outside\",\"lead\":2,\"order_lead\":0}],\"stockout\":0}],\"pauses\":[{\"from\":1,\"node\":\"depot\",\"to\":2,\"what\":\"receipts\"}],\"periods\":2,\"seed\":7}";
-    for read in [text, written] {
-        let Ok(instance) = read_instance(rt.alloc(), read.as_bytes()) else {
-            panic!(rt; "{read} is refused");
-        };
-        match write_instance(rt.alloc(), &instance) {
-            Ok(bytes) => assert!(rt; bytes.as_slice() == written.as_bytes(), "{read}"),
-            Err(_) => panic!(rt; "no memory"),
-        }
+fn reads_and_writes_networks(rt: HostRuntime) {
+    for (text, written) in [
+        (
+            "{\"kind\":\"network\",\"periods\":2,\"seed\":7,\"nodes\":[{\"name\":\"shop\",\"initial\":5,\"holding\":1,\"stockout\":10,\"rule\":{\"min\":1,\"max\":5},\"sources\":[{\"from\":\"depot\",\"lead\":1},{\"from\":\"outside\",\"lead\":0,\"order_lead\":2}],\"demand\":{\"trace\":[2,4]}},{\"name\":\"depot\",\"initial\":3,\"holding\":1,\"rule\":{\"reorder\":-1,\"lot\":4},\"sources\":[{\"from\":\"outside\",\"lead\":2}]}],\"pauses\":[{\"node\":\"depot\",\"what\":\"receipts\",\"from\":1,\"to\":2}]}",
+            "{\"kind\":\"network\",\"nodes\":[{\"demand\":{\"trace\":[2,4]},\"holding\":1,\"initial\":5,\"name\":\"shop\",\"rule\":{\"max\":5,\"min\":1},\"sources\":[{\"from\":\"depot\",\"lead\":1,\"order_lead\":0},{\"from\":\"outside\",\"lead\":0,\"order_lead\":2}],\"stockout\":10},{\"holding\":1,\"initial\":3,\"name\":\"depot\",\"rule\":{\"lot\":4,\"reorder\":-1},\"sources\":[{\"from\":\"outside\",\"lead\":2,\"order_lead\":0}],\"stockout\":0}],\"pauses\":[{\"from\":1,\"node\":\"depot\",\"to\":2,\"what\":\"receipts\"}],\"periods\":2,\"seed\":7}",
+        ),
+        (
+            "{\"kind\":\"network\",\"periods\":2,\"seed\":0,\"nodes\":[{\"name\":\"a\",\"initial\":0,\"holding\":0,\"rule\":{\"base\":1},\"sources\":[{\"from\":\"outside\",\"lead\":1}],\"demand\":{\"binomial\":[2,1,2]}}]}",
+            "{\"kind\":\"network\",\"nodes\":[{\"demand\":{\"points\":[[0,1],[1,2],[2,1]]},\"holding\":0,\"initial\":0,\"name\":\"a\",\"rule\":{\"base\":1},\"sources\":[{\"from\":\"outside\",\"lead\":1,\"order_lead\":0}],\"stockout\":0}],\"pauses\":[],\"periods\":2,\"seed\":0}",
+        ),
+        (
+            "{\"kind\":\"network\",\"periods\":2,\"nodes\":[{\"name\":\"a\",\"initial\":0,\"holding\":0,\"rule\":{\"house\":1,\"cap\":9},\"sources\":[{\"from\":\"outside\",\"lead\":1}]}]}",
+            "{\"kind\":\"network\",\"nodes\":[{\"holding\":0,\"initial\":0,\"name\":\"a\",\"rule\":{\"cap\":9,\"house\":1},\"sources\":[{\"from\":\"outside\",\"lead\":1,\"order_lead\":0}],\"stockout\":0}],\"pauses\":[],\"periods\":2}",
+        ),
+    ] {
+        is_written(&rt, rt.alloc(), text, written);
+        is_written(&rt, rt.alloc(), written, written);
     }
 }
