@@ -84,6 +84,9 @@ def all_lots():
     yield "lists", lots(demand=[period * 7919 % 1000001 for period in range(2000)],
                         setup=[10 ** (period * 5 % 13) for period in range(2000)],
                         holding=[period * 131 % 1001 for period in range(2000)], unit=[RATE] * 2000)
+
+
+def long_lots():
     yield "no demand", lots(demand=[0] * 2000)
     yield "no setup cost", lots(setup=0)
 
@@ -180,6 +183,7 @@ def network(periods, **keys):
 
 
 KINDS = {"newsvendor": newsvendors, "lots": all_lots, "finite": finites, "average": averages, "serial": serials}
+LONG = {"lots": long_lots, "finite": long_finites}
 
 
 def greatest_law(instance, period):

@@ -5,6 +5,7 @@ takes the next line of a certificate whose lines so far break no rule, and is th
 breaks, or None. Values are whole numbers over the scales of that document, whatever their size.
 """
 from collections import deque
+from itertools import accumulate
 from math import gcd
 
 from laws import StockCost, greatest_of, law_of, law_of_sum, laws_of, rates_of
@@ -51,8 +52,9 @@ class Lots:
         self.unit = rates_of(instance.get("unit", 0), periods)
         self.holding = rates_of(instance["holding"], periods)
         self.orders, self.duals = [], []
-        # For each period so far: the holding costs of a unit from it on, and what the duals pay of its setup cost.
-        self.held, self.paid = [], []
+        # The holding costs of a unit from the first period to each, and what the duals pay of each setup cost so far.
+        self.held = [0] + list(accumulate(self.holding))
+        self.paid = []
 
     def broken(self, word, numbers):
         done = len(self.orders)
@@ -76,16 +78,14 @@ class Lots:
         return self.dual_broken(done - 1, dual)
 
     def dual_broken(self, period, dual):
-        if period > 0:
-            self.held = [held + self.holding[period - 1] for held in self.held]
-        self.held.append(0)
         self.paid.append(0)
-        demand = self.demand[period]
+        demand, held = self.demand[period], self.held[period]
         for earlier in range(period + 1):
-            serving = demand * (self.unit[earlier] + self.held[earlier])
-            self.paid[earlier] += max(dual - serving, 0)
-            if self.paid[earlier] > self.setup[earlier]:
-                return 4
+            serving = demand * (self.unit[earlier] + held - self.held[earlier])
+            if dual > serving:
+                self.paid[earlier] += dual - serving
+                if self.paid[earlier] > self.setup[earlier]:
+                    return 4
         return 4 if demand == 0 and dual != 0 else None
 
     def plan_cost(self):

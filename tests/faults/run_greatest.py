@@ -20,7 +20,7 @@ import tempfile
 import time
 
 from costs import COSTS
-from greatest import KINDS, all_demands, by_hand, finite, greatest_law, long_finites, network
+from greatest import KINDS, LONG, all_demands, by_hand, finite, greatest_law, network
 from limits import limits, texts
 from measured import Runner
 from reference import verdict
@@ -214,8 +214,9 @@ def run_instances(greatest, long):
                     finite(periods=1, lead=8, setup=0, unit=0, holding=0, stockout=0, demand=law))
     greatest.simulated("network, 64 nodes for 100 periods", network(100))
     if long:
-        for name, instance in long_finites():
-            greatest.instance("finite", name, instance)
+        for kind, instances in LONG.items():
+            for name, instance in instances():
+                greatest.instance(kind, name, instance)
         greatest.demand("demand, all demands over the longest lead time", finite(
             periods=1, lead=8, setup=0, unit=0, holding=0, stockout=0, demand=all_demands(10320)))
         greatest.simulated("network, 64 nodes for 10,000 periods", network(10000))
