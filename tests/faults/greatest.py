@@ -61,6 +61,13 @@ def width_of(instance):
     return widths[instance["kind"]](instance, instance["cap"] - lowest + 1, lowest)
 
 
+def widest(instance):
+    """The instance with the greatest setup cost that its width number allows."""
+    least = width_of({**instance, "setup": 0})
+    step = width_of({**instance, "setup": 1}) - least
+    return {**instance, "setup": (WIDEST - least) // step}
+
+
 def newsvendor(**keys):
     return {"kind": "newsvendor", "holding": RATE, "stockout": RATE, **keys}
 
@@ -132,10 +139,8 @@ def average(**keys):
 
 
 def averages():
-    widest = average(setup=0, holding=2, stockout=9, demand={"points": [[0, 4094], [1, 1], [2, 1]]}, floor=-3, cap=28)
-    narrow = width_of({**widest, "setup": 1}) - width_of(widest)
-    widest["setup"] = (WIDEST - width_of(widest)) // narrow
-    yield "exactly the widest", widest
+    points = [[0, 4094], [1, 1], [2, 1]]
+    yield "exactly the widest", widest(average(holding=2, stockout=9, demand={"points": points}, floor=-3, cap=28))
     yield "the most positions, the largest weights", average(demand={"points": [[0, 10 ** 9 - 1], [1, 1]]})
     yield "the most positions, the longest lead time", average(
         lead=8, demand={"points": [[0, 11], [1, 1]]}, policy="rQ")

@@ -1,7 +1,8 @@
 """For each limit that docs/FORMAT.md states an instance at it, and one that passes it by one with its refusal."""
 import json
 
-from greatest import BYTES, MOST_DEMAND, MOST_WEIGHT, ONE_OR_NONE, RATE, by_hand, finites, averages, serials
+from greatest import (BYTES, MOST_DEMAND, MOST_WEIGHT, ONE_OR_NONE, RATE, averages, by_hand, finites, serials,
+                      widest)
 
 SMALL = {
     "newsvendor": {"kind": "newsvendor", "holding": 1, "stockout": 1, "demand": ONE_OR_NONE},
@@ -195,8 +196,25 @@ def widths():
     yield "an average of one more", average, {**average, "setup": average["setup"] + 1}, "instance: too wide"
     yield ("a serial system of one more", serial, {**serial, "stockout": serial["stockout"] + 1},
            "instance: too wide")
+    for place, instance in enumerate(map(widest, widest_shortages()), 1):
+        yield ("shortage %d" % place, instance, {**instance, "setup": instance["setup"] + 1}, "instance: too wide")
     yield ("the longest horizon of one more", longest, {**longest, "setup": longest["setup"] + 1},
            "instance: too wide")
+
+
+def half(demand):
+    return {"points": [[0, 2 ** 23], [demand, 2 ** 23]]}
+
+
+def widest_shortages():
+    """The widest instances of laws by period, of a start above 0, and of averages on one side of 0."""
+    rare = {"points": [[0, 2 ** 21 - 1], [1, 1]]}
+    yield with_keys("finite", periods=2, lead=2, holding=2, stockout=3, demand=list(map(half, (1, 2, 5, 3))), cap=4,
+                    start=-2)
+    yield with_keys("finite", periods=3, lead=1, unit=2, holding=2, stockout=3, end_stockout=4, end_holding=1,
+                    demand=half(3), cap=4, start=3)
+    yield with_keys("average", holding=7, stockout=3, demand=rare, floor=-9, cap=-4, lead=1)
+    yield with_keys("average", holding=7, stockout=3, demand=rare, floor=4, cap=9, lead=1)
 
 
 def loads():
