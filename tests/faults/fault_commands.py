@@ -26,7 +26,7 @@ WRITTEN = {
              "cap": 2, "start": 0},
     "discount": {"kind": "serial", "periods": 2, "discount": [9, 10], "holding": [1], "unit": [2], "stockout": 9,
                  "demand": OF_ALL_DEMAND, "cap": 3, "start": [1]},
-    "wide": {"kind": "finite", "periods": 104, "holding": 1, "stockout": 2, "demand": {"uniform": [0, 99]},
+    "wide": {"kind": "finite", "periods": 104, "holding": 1, "stockout": 2, "demand": {"uniform": [0, 9]},
              "cap": 2, "start": 0},
     "unknown": {"kind": "newsvendor", "holding": 1, "stockout": 3, "demand": OF_ALL_DEMAND, "setup": 1},
     "absent": {"kind": "network", "periods": 2, "nodes": [node({"house": 5, "cap": 9})]},

@@ -29,10 +29,8 @@ from fault_runs import HERE, Bench, NoLibrary
 
 PROGRAM = os.path.join(HERE, "..", "..", "crates", "stock", "out", "stock")
 WORKERS = 2
-# The most bytes of a read or write, 0 for no limit; and those under which calls fail without --long.
+# The most bytes of a read or write, 0 for no limit.
 PIECES = (0, 1, 7, 4096)
-SHORT_PIECES = (0, 1, 7)
-MEMORY_PIECES = (0,)
 CANNOT_WRITE = b"stock: cannot write\n"
 NO_MEMORY = b"stock: out of memory\n"
 
@@ -137,10 +135,17 @@ def places(count, is_long, first):
     return sorted(chosen)
 
 
+def is_short(fault, piece):
+    """Whether the fault is tried with these pieces without --long."""
+    if fault.kind == "memory":
+        return piece == 0
+    return piece == 7 if fault.settings else piece != 4096
+
+
 def fault_tasks(command, plain, settings, counted, is_long):
     """The runs of a command with these pieces in which a call fails, and those where that call isn't met."""
     for fault in FAULTS:
-        if not is_long and settings["FAIL_PIECE"] not in (MEMORY_PIECES if fault.kind == "memory" else SHORT_PIECES):
+        if not is_long and not is_short(fault, settings["FAIL_PIECE"]):
             continue
         count = counted.calls[fault.kind]
         setting = "FAIL_" + fault.kind.upper()
