@@ -67,9 +67,8 @@ def same(command, plain, done):
 
 
 def read_fault(command, plain, done):
-    name = "-"
-    if done.source > 0:
-        name = opened_files(command)[done.source - 1]
+    names = ["-", *opened_files(command)]
+    name = names[done.source] if done.source < len(names) else "(a file that isn't among the words)"
     return Wanted(4, exactly(b""), exactly(b"stock: cannot read %s\n" % name.encode()))
 
 
@@ -223,6 +222,9 @@ class Test:
 
     def try_command(self, command):
         plain = Plain(*self.bench.start(command, {}))
+        if plain.status is None or plain.status < 0:
+            self.tell(command, "doesn't end by itself where nothing fails")
+            return
         counts = self.with_pieces(command, plain)
         self.all_of([task for settings, counted in counts
                      for task in fault_tasks(command, plain, settings, counted, self.is_long)])
@@ -260,7 +262,7 @@ def run_all(program, is_long, parts):
             for command in all_commands():
                 if all(part in command.name for part in parts):
                     test.try_command(command)
-    met = ", ".join("%d %s" % (count, name) for name, count in test.met.items())
+    met = ", ".join("%d %s" % (count, name) for name, count in test.met.items()) or "none"
     print("%d runs in %.0f seconds; faults met: %s; %d failed"
           % (test.runs, time.monotonic() - started, met, test.failures))
     return 1 if test.failures else 0
