@@ -178,7 +178,7 @@ def network(periods, **keys):
 
     depots, plants = ["depot%d" % place for place in range(8)], ["plant%d" % place for place in range(8)]
     nodes = [node("shop%02d" % place, from_places(depots), {"min": 500, "max": 90000}, stockout=RATE,
-                  demand={"uniform": [0, MOST_DEMAND]} if place % 2 else {"trace": [place * 37] * periods})
+                  demand={"uniform": [0, MOST_DEMAND]} if place % 8 else {"trace": [place * 37] * periods})
              for place in range(48)]
     nodes += [node(name, from_places(plants), {"reorder": 1000, "lot": 5000}) for name in depots]
     nodes += [node(name, from_places(["outside"] * 8), {"base": 10 ** 6}) for name in plants]
