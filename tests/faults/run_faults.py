@@ -122,10 +122,12 @@ def complaints(wanted, done):
     return found
 
 
-def places(count, is_long, first):
-    """The calls that are to fail, of so many: all, or the first ones, ever fewer behind them, and the last two."""
-    if is_long:
+def places(fault, count, is_long):
+    """The calls that are to fail, of so many: all, or the first ones, ever fewer behind them, and the last two. Of reads
+    and writes not all fail together with something else."""
+    if is_long and (not fault.settings or fault.kind == "memory"):
         return range(1, count + 1)
+    first = 10 if is_long or not fault.settings else 2
     chosen = {place for place in (*range(1, first + 1), count - 1, count) if 1 <= place <= count}
     place = float(first)
     while place < count:
@@ -148,7 +150,7 @@ def fault_tasks(command, plain, settings, counted, is_long):
             continue
         count = counted.calls[fault.kind]
         setting = "FAIL_" + fault.kind.upper()
-        for place in places(count, is_long, 2 if fault.settings else 10):
+        for place in places(fault, count, is_long):
             yield Task(command, plain, fault, place, {**settings, **fault.settings, setting: place})
         if not fault.settings:
             yield Task(command, plain, None, count + 1, {**settings, setting: count + 1})
