@@ -13,8 +13,8 @@ right is what tests/cases are for):
   - with the k-th write of the message failing, the same status and output;
   - with the k-th request for memory refused, a front of it, with status 7 and its message or none.
 
-With --long every k is tried, under all these pieces, up to the first that isn't met any more; else the first ones, ever
-fewer behind them, and the last ones. A line is printed for each run that ends otherwise, and at the end one with the
+With --long (some minutes) every k is tried, under all these pieces, up to the first that isn't met any more; else the
+first ones, ever fewer behind them, and the last ones. A line is printed for each run that ends otherwise, and at the end one with the
 counts. The exit status is 1 where a run did.
 """
 import collections
@@ -123,8 +123,8 @@ def complaints(wanted, done):
 
 
 def places(fault, count, is_long):
-    """The calls that are to fail, of so many: all, or the first ones, ever fewer behind them, and the last two. Of reads
-    and writes not all fail together with something else."""
+    """The calls that are to fail, of so many: all, or the first ones, ever fewer behind them, and the last two. Not
+    every read and write fails together with something else."""
     if is_long and (not fault.settings or fault.kind == "memory"):
         return range(1, count + 1)
     first = 10 if is_long or not fault.settings else 2
