@@ -14,8 +14,8 @@ right is what tests/cases are for):
   - with the k-th request for memory refused, a front of it, with status 7 and its message or none.
 
 With --long (some minutes) every k is tried, under all these pieces, up to the first that isn't met any more; else the
-first ones, ever fewer behind them, and the last ones. A line is printed for each run that ends otherwise, and at the end one with the
-counts. The exit status is 1 where a run did.
+first ones, ever fewer behind them, and the last ones. A line is printed for each run that ends otherwise, and at the
+end one with the counts. The exit status is 1 where a run did.
 """
 import collections
 import concurrent.futures
