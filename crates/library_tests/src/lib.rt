@@ -1,5 +1,4 @@
-//! Tests of public calls on worked examples, most of them of the crates that are dearest to prove: a crate with tests of
-//! its own is proved twice.
+//! Tests of the top call, which would be proved twice with tests of its own, and of a few public calls below it.
 #![tactic(auto)]
 
 #[cfg(test)]
@@ -8,10 +7,6 @@ mod commands;
 mod faults;
 #[cfg(test)]
 mod house_rules;
-#[cfg(test)]
-mod instances;
-#[cfg(test)]
-mod network_instances;
 #[cfg(test)]
 mod network_rows;
 #[cfg(test)]
