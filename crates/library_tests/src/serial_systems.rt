@@ -12,6 +12,7 @@ use std::test::Fail;
 use value_cert::{SerialCert, SerialPeriod, SerialRow};
 
 // An echelon with its level, the first position and the values from there on.
+#[derive(Clone, Copy)]
 struct Row<'a> {
     level: i64,
     first: i64,
