@@ -7,8 +7,6 @@ mod moves;
 mod relative;
 mod solve;
 mod tables;
-#[cfg(test)]
-mod tests;
 
 pub use relative::span;
 pub use solve::solve_average;

@@ -11,8 +11,6 @@ mod place;
 mod points;
 mod tables;
 mod terms;
-#[cfg(test)]
-mod tests;
 
 pub use points::Points;
 pub use tables::{cells_of, sums_of};

@@ -4,22 +4,14 @@
 
 mod average;
 mod check;
-#[cfg(test)]
-mod damage_tests;
 mod finite;
-#[cfg(test)]
-mod finite_tests;
 mod kind_check;
 mod kind_rules;
-#[cfg(test)]
-mod lot_tests;
 mod lots;
 mod network;
 mod news;
 mod serial;
 mod tables;
-#[cfg(test)]
-mod tests;
 mod text_check;
 mod verdicts;
 mod whole;

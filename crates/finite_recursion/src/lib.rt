@@ -10,8 +10,6 @@ mod recursion;
 mod row;
 mod scales;
 mod tables;
-#[cfg(test)]
-mod tests;
 
 pub use laws::list_demands;
 pub use recursion::{Found, Recursion};

@@ -12,4 +12,4 @@ mod network_rows;
 #[cfg(test)]
 mod network_runs;
 #[cfg(test)]
-mod serial_systems;
+mod verdicts;

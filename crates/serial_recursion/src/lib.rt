@@ -12,8 +12,6 @@ mod rates;
 mod recursion;
 mod rows;
 mod tables;
-#[cfg(test)]
-mod tests;
 mod values;
 
 pub use recursion::Recursion;

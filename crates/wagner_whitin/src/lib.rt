@@ -2,7 +2,5 @@
 #![tactic(auto)]
 
 mod solve;
-#[cfg(test)]
-mod tests;
 
 pub use solve::solve_lots;
