@@ -5,9 +5,8 @@ ghost use Rattle.decision_model.specs.Average.{IsValidAverage, average_positions
 ghost use Rattle.value_cert.specs.AverageRules.{IsLeastAverage, lower_in, upper_in, greatest_value, span_num, span_den};
 ghost use Rattle.value_cert.specs.AverageValues.{moving};
 
-use crate::solve::power;
 use decision_model::Average;
-use fraction128::Frac;
+use fraction128::{Frac, power};
 use value_cert::AverageCert;
 
 // The greatest of a number and all relative values of both tables, over the denominator of the last place.

@@ -17,18 +17,10 @@ use crate::moves::list_moves;
 use crate::tables::{first_cheap, lower_table, upper_table};
 use decision_model::{Average, Items};
 use demand_law::{Law, lead_sum};
-use fraction128::{Memory, checked_pow};
+use fraction128::{Memory, power};
 use std::alloc::{AllocError, Global};
 use std::slice;
 use value_cert::{AverageCell, AverageCert};
-
-// A power that is known to fit.
-pub(crate) fn power(base: u128, times: u32) -> u128
-    requires { base ^ times ≤ 2 ^ 120 }
-    ensures { result ≡ base ^ times }
-{
-    checked_pow(base, times).unwrap_or(0)
-}
 
 // The position of a place.
 fn position_of(item: &Average, k: usize) -> i64

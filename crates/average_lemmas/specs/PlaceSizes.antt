@@ -16,7 +16,7 @@ use Rattle.decision_model.specs.Positions.{above_zero}
 use Rattle.decision_model.specs.PositionTests.{above_zero_mono}
 use Rattle.decision_model.specs.Stock.{HasRoom, stock_cost, cost_at}
 use Rattle.value_cert.specs.AverageValues.{moving, at_place, lead_demand, stock_sum, greatest_den}
-use Rattle.decision_model.specs.declared.limits.TheConstants.{LEAST_POSITION, MOST_POSITION}
+use Rattle.decision_model.specs.Limits.{least_position, most_position}
 use Rattle.average_lemmas.specs.Certified.{moving_some}
 use Rattle.average_lemmas.specs.KeptSizes.{half_small}
 use Rattle.average_lemmas.specs.RulesKept.{positions_count}
@@ -130,5 +130,5 @@ module _ (item : Average) (valid : IsValidAverage item) where
       let back = near_back item.floor (near item.floor valid.regular.readable.floor.least valid.regular.readable.floor.most) in
       rw (e, back) (subst (λ (y : ℤ). HasRoom item.holding item.stockout (lead_demand item) y) floor room)
     where
-      near : (z : ℤ) → LEAST_POSITION ≤ℤ z → z ≤ℤ MOST_POSITION → unsigned_abs z ≤ 1000000000
+      near : (z : ℤ) → least_position ≤ℤ z → z ≤ℤ most_position → unsigned_abs z ≤ 1000000000
       near z low high = omega (arith, ints, low, high)

@@ -4,7 +4,7 @@ ghost use Rattle.decision_model.specs.Average.{IsValidAverage, average_positions
 ghost use Rattle.average_recursion.specs.Rows.{AreTerms};
 
 use decision_model::Average;
-use fraction128::checked_pow;
+use fraction128::power;
 
 // Sums of weights, and their powers.
 #[derive(Clone, Copy, Debug)]
@@ -19,14 +19,6 @@ pub(crate) struct Terms {
     pub(crate) unit: u128,
     // The sum of the weights of the demands above 0, once for each position but one.
     pub(crate) last: u128,
-}
-
-// A power that is known to fit.
-fn power(base: u128, times: u32) -> u128
-    requires { base ^ times ≤ 2 ^ 120 }
-    ensures { result ≡ base ^ times }
-{
-    checked_pow(base, times).unwrap_or(0)
 }
 
 pub(crate) fn terms_of(average: &Average) -> Terms

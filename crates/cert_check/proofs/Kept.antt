@@ -3,7 +3,8 @@ use Rattle.std.proofs.Common.{◌≡◌, ℕ, true, false, cond, Bool, List, [],
 use Rattle.std.specs.Prelude.{is_none}
 use Rattle.std.proofs.lemmas.Bool.{false≢true}
 use Rattle.decision_model.specs.declared.instance.Instance.{Instance}
-use Rattle.value_cert.specs.Breaches.{broken_rule, lines_breach, lines_breach_from}
+use Rattle.line_text.specs.Breaches.{broken_rule, lines_breach_from}
+use Rattle.value_cert.specs.Breaches.{cert_rules, lines_breach}
 use Rattle.value_cert.specs.Grammar.{place_after}
 use Rattle.value_cert.specs.Texts.{IsWhole}
 use Rattle.value_cert.specs.CertFacts.{place_from_front}
@@ -12,20 +13,20 @@ use Rattle.value_cert.specs.Rules.{known_of, later_rule}
 use Rattle.value_cert.specs.Standards.{rules_of}
 use Rattle.value_cert.specs.declared.line.CertLine.{CertLine}
 use Rattle.value_cert.specs.declared.place.Place.{Place}
-use Rattle.cert_check.proofs.Breaches.{none_here, none_further, or_none}
+use Rattle.line_text.specs.BreachSteps.{none_here, none_further, or_none}
 
 -- ---- the breach of lines
 later_none : (nowhere : Bool) (rule : Option ℕ) → cond nowhere (Some 1) rule ≡ None → rule ≡ None
 later_none false rule h = h
 later_none true rule h = cc
 
-kept_from : (item : Instance) (before lines : List CertLine) → lines_breach_from item before lines ≡ None → Keeps (rules_of item) (known_of (rules_of item) before) lines
+kept_from : (item : Instance) (before lines : List CertLine) → lines_breach_from (cert_rules item) before lines ≡ None → Keeps (rules_of item) (known_of (rules_of item) before) lines
 kept_from item before [] none = tt
 kept_from item before (line ∷ lines) none =
-    let further = lines_breach_from item (before ++ line ∷ []) lines in
+    let further = lines_breach_from (cert_rules item) (before ++ line ∷ []) lines in
     let P : (rules_of item).Known → Type 0 = λ known. Keeps (rules_of item) known lines in (
-      later_none (is_none (place_after (before ++ line ∷ []))) (later_rule (rules_of item) before line) (none_here before (broken_rule item before line) further none),
-      subst P (known_of-more (rules_of item) before line) (kept_from item (before ++ line ∷ []) lines (none_further before (broken_rule item before line) further none)),
+      later_none (is_none (place_after (before ++ line ∷ []))) (later_rule (rules_of item) before line) (none_here before (broken_rule (cert_rules item) before line) further none),
+      subst P (known_of-more (rules_of item) before line) (kept_from item (before ++ line ∷ []) lines (none_further before (broken_rule (cert_rules item) before line) further none)),
     )
 
 -- lines without a breach break no rule
@@ -39,13 +40,13 @@ somewhere (Some at) h = refl
 unbroken : (nowhere : Bool) (rule : Option ℕ) → nowhere ≡ false → rule ≡ None → cond nowhere (Some 1) rule ≡ None
 unbroken nowhere rule e f = rw (e, f) refl
 
-passing_from : (item : Instance) (before lines : List CertLine) → IsWhole (before ++ lines) → Keeps (rules_of item) (known_of (rules_of item) before) lines → lines_breach_from item before lines ≡ None
+passing_from : (item : Instance) (before lines : List CertLine) → IsWhole (before ++ lines) → Keeps (rules_of item) (known_of (rules_of item) before) lines → lines_breach_from (cert_rules item) before lines ≡ None
 passing_from item before [] whole kept = refl
 passing_from item before (line ∷ lines) whole kept =
     let W : List CertLine → Type 0 = IsWhole in
     let P : (rules_of item).Known → Type 0 = λ known. Keeps (rules_of item) known lines in
     let front : IsWhole ((before ++ line ∷ []) ++ lines) = subst W (sym (append_assoc before (line ∷ []) lines)) whole in
-    or_none before (broken_rule item before line) (lines_breach_from item (before ++ line ∷ []) lines)
+    or_none before (broken_rule (cert_rules item) before line) (lines_breach_from (cert_rules item) (before ++ line ∷ []) lines)
     (unbroken (is_none (place_after (before ++ line ∷ []))) (later_rule (rules_of item) before line) (somewhere (place_after (before ++ line ∷ [])) (place_from_front (before ++ line ∷ []) (lines, front))) kept.0)
     ∙ passing_from item (before ++ line ∷ []) lines front (subst P (sym (known_of-more (rules_of item) before line)) kept.1)
 

@@ -4,7 +4,6 @@ pub mod LotCells
 pub mod LotOrders
 pub mod LotChecks
 pub mod LotLines
-pub mod Breaches
 pub mod Kept
 pub mod ProvenNews
 pub mod ProvenLots
@@ -15,6 +14,4 @@ pub mod SerialLines
 pub mod ProvenSerial
 pub mod ProvenNetwork
 pub mod ProvenKinds
-pub mod Checks
 pub mod Texts
-pub mod TextChecks

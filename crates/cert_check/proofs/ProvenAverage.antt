@@ -24,7 +24,7 @@ pub average_answers : (item : Instance) (before : List CertLine) (line : CertLin
     → AnswersLine (KnowsAverage new) item before line answer
 average_answers (instance.Average average) before line old new answer of same rule points = record {
   rule = rule known of.points ∙ ap (λ (item : Average). average_rule item known line) of.average_is;
-  knows = λ none. record {
+  known = λ none. record {
     average_is = same ∙ of.average_is;
     points = subst Knows (sym (known_of-more (average_rules average) before line)) (points known of.points none);
   };

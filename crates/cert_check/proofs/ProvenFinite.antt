@@ -24,7 +24,7 @@ pub finite_answers : (item : Instance) (before : List CertLine) (line : CertLine
     → AnswersLine (KnowsFinite new) item before line answer
 finite_answers (instance.Finite finite) before line old new answer of same rule rows = record {
   rule = rule known of.rows ∙ ap (λ (f : Finite). finite_rule f known line) of.finite_is;
-  knows = λ none. record {
+  known = λ none. record {
     finite_is = same ∙ of.finite_is;
     rows = subst Knows (ap (λ (f : Finite). named_values f known line) of.finite_is ∙ sym (known_of-more (finite_rules finite) before line)) (rows known of.rows none);
   };

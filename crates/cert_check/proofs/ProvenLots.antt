@@ -26,7 +26,7 @@ pub lots_answers : (item : Instance) (before : List CertLine) (line : CertLine) 
     → AnswersLine (KnowsLots new) item before line answer
 lots_answers (instance.Lots lots) before line old new answer of same rule plan = record {
   rule = rule (known_of (lots_rules lots) before) of.plan ∙ ap (λ (i : LotSize). lots_rule i (known_of (lots_rules lots) before) line) of.lots_are;
-  knows = λ none. record {
+  known = λ none. record {
     lots_are = same ∙ of.lots_are;
     plan = subst Knows (sym (known_of-more (lots_rules lots) before line)) (plan (known_of (lots_rules lots) before) of.plan none);
   };

@@ -20,7 +20,7 @@ breaks_rule (instance.News item) before line unsolved = cc
 breaks_rule _ before line unsolved = cc
 
 pub network_answers : (item : Instance) (before : List CertLine) (line : CertLine) (check : NetworkCheck) → KnowsNetwork check item before → AnswersLine (KnowsNetwork check) item before line (Some 2)
-network_answers item before line check unsolved = record { rule = sym (breaks_rule item before line unsolved); knows = λ none. unsolved }
+network_answers item before line check unsolved = record { rule = sym (breaks_rule item before line unsolved); known = λ none. unsolved }
 
 -- no certificate keeps such rules
 pub none_kept : (c : Cert) → Keeps no_line_rules tt (cert_lines c) → ⊥

@@ -33,7 +33,7 @@ pub news_answers : (item : Instance) (before : List CertLine) (line : CertLine) 
     → AnswersLine (KnowsNews new) item before line answer
 news_answers (instance.News newsvendor) before line old new answer of same rule level = record {
   rule = rule ∙ ap (λ (n : NewsvendorItem). news_rule n old.level line) of.newsvendor_is ∙ ap (λ (q : ℕ). news_rule newsvendor q line) of.named;
-  knows = λ none. record {
+  known = λ none. record {
     newsvendor_is = same ∙ of.newsvendor_is;
     named = level none ∙ ap (λ (q : ℕ). named_level q line) of.named ∙ sym (known_of-more (news_rules newsvendor) before line);
   };

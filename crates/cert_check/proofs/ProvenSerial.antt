@@ -24,7 +24,7 @@ pub serial_answers : (item : Instance) (before : List CertLine) (line : CertLine
     → AnswersLine (KnowsSerial new) item before line answer
 serial_answers (instance.Serial serial) before line old new answer of same rule rows = record {
   rule = rule known of.rows ∙ ap (λ (item : Serial). serial_rule item known line) of.serial_is;
-  knows = λ none. record {
+  known = λ none. record {
     serial_is = same ∙ of.serial_is;
     rows = subst Knows (sym (known_of-more (serial_rules serial) before line)) (rows known of.rows none);
   };

@@ -1,67 +1,54 @@
--- The breach of a text that begins with whole lines.
+-- What is accepted names a policy than which none costs less, and what the solver writes is accepted.
 use Rattle.std.proofs.Common.{◌≡◌, ℕ, List, [], ◌++◌, Option, Some, None, true, refl, sym, ap, ◌∙◌, append-nil}
-use Rattle.std.specs.Prelude.{◌==◌}
-use Rattle.std.specs.List.{slice_split}
 use Rattle.std.specs.Option.{option_or}
 use Rattle.decision_model.specs.Valid.{IsValid}
 use Rattle.decision_model.specs.declared.instance.Instance.{Instance}
-use Rattle.value_cert.specs.BreachFacts.{lines_then_pieces, text_breach-read, text_breach-ended}
-use Rattle.value_cert.specs.Breaches.{Breach, end_breach, lines_breach, pieces_breach, text_breach}
-use Rattle.value_cert.specs.CertFacts.{whole_ends, whole_has_numbers}
+use Rattle.line_check.specs.Checks.{AreWhole}
+use Rattle.line_check.specs.TextChecks.{IsWholeText}
+use Rattle.line_text.specs.TextBreaches.{end_breach, pieces_breach}
+use Rattle.line_text.specs.TextBreachFacts.{pieces_of, lines_then_pieces}
+use Rattle.value_cert.specs.Breaches.{Breach, cert_rules, lines_breach, text_breach}
+use Rattle.value_cert.specs.CertFacts.{ended_is_whole, whole_ends}
 use Rattle.value_cert.specs.Grammar.{has_ended, place_after}
-use Rattle.value_cert.specs.Reading.{ReaderState, IsUnfinished, HasRead}
+use Rattle.value_cert.specs.GrammarFacts.{ended_at}
 use Rattle.value_cert.specs.Texts.{IsWhole, lines_text, cert_lines}
 use Rattle.value_cert.specs.declared.line.CertLine.{CertLine}
-use Rattle.cert_check.specs.Meaning.{IsCertified, IsOwnText}
+use Rattle.value_cert.specs.declared.place.Place.TheVariants as place
+use Rattle.cert_check.specs.Meaning.{AreCertified, IsCertified, IsOwnText}
 use Rattle.cert_check.proofs.Kept.{kept_by, passing_by}
 use Rattle.cert_check.proofs.ProvenKinds.{certifies_by, solved_is_kept}
 
--- the lines of a text
-abbrev pub pieces_of : List ℕ → List (List ℕ)
-pieces_of text = slice_split (λ byte. byte == 10) text
-
-none_first : (first further : Option Breach) → first ≡ None → option_or first further ≡ further
-none_first first further none = rw none refl
-
-some_first : (first further : Option Breach) (b : Breach) → first ≡ Some b → option_or first further ≡ Some b
-some_first first further b some = rw some refl
-
--- ---- bytes that were read
-pub read_text : (item : Instance) (reader : ReaderState) (bytes : List ℕ) (lines : List CertLine) (more : List ℕ) → HasRead reader bytes lines → lines_breach item lines ≡ None
-    → text_breach item (bytes ++ more) ≡ pieces_breach item lines (pieces_of (reader.unfinished ++ more))
-read_text item reader bytes lines more read none =
-    text_breach-read item reader bytes more lines read ∙ none_first (lines_breach item lines) (pieces_breach item lines (pieces_of (reader.unfinished ++ more))) none
-
-pub read_broken : (item : Instance) (reader : ReaderState) (bytes : List ℕ) (lines : List CertLine) (more : List ℕ) (b : Breach) → HasRead reader bytes lines → lines_breach item lines ≡ Some b
-    → text_breach item (bytes ++ more) ≡ Some b
-read_broken item reader bytes lines more b read some =
-    text_breach-read item reader bytes more lines read ∙ some_first (lines_breach item lines) (pieces_breach item lines (pieces_of (reader.unfinished ++ more))) b some
-
-pub read_end : (item : Instance) (reader : ReaderState) (bytes : List ℕ) (lines : List CertLine) → HasRead reader bytes lines → IsUnfinished reader.unfinished → lines_breach item lines ≡ None
-    → text_breach item bytes ≡ end_breach lines reader.unfinished
-read_end item reader bytes lines read short none =
-    text_breach-ended item reader bytes lines read short ∙ none_first (lines_breach item lines) (end_breach lines reader.unfinished) none
-
--- ---- whole lines
--- what is accepted is the text of a certificate that names a policy than which none costs less, and its cost
-pub certified_lines : (item : Instance) (lines : List CertLine) (text : List ℕ) → IsValid item → IsWhole lines → lines_breach item lines ≡ None → text ≡ lines_text lines → IsCertified item text
-certified_lines item lines text valid whole none is =
+-- ---- what is accepted
+pub certified_lines : (item : Instance) (lines : List CertLine) → IsValid item → AreWhole (cert_rules item) lines → AreCertified item lines
+certified_lines item lines valid all =
+    let whole : IsWhole lines = ended_is_whole lines all.ended in
     record {
       cert = whole.0;
       readable = whole.1;
-      text_is = is ∙ ap lines_text (sym whole.2);
-      certifies = certifies_by item whole.0 valid whole.1 (kept_by item (cert_lines whole.0) (ap (lines_breach item) whole.2 ∙ none));
+      lines_are = sym whole.2;
+      certifies = certifies_by item whole.0 valid whole.1 (kept_by item (cert_lines whole.0) (ap (lines_breach item) whole.2 ∙ all.unbroken));
     }
 
-ended_breach : (lines : List CertLine) → has_ended (place_after lines) ≡ true → end_breach lines [] ≡ None
-ended_breach lines h = rw h refl
+pub certified_text : (item : Instance) (text : List ℕ) → IsValid item → IsWholeText (cert_rules item) text → IsCertified item text
+certified_text item text valid all =
+    let told = certified_lines item all.lines valid all.whole in
+    record { cert = told.cert; readable = told.readable; text_is = all.text_is ∙ ap lines_text told.lines_are; certifies = told.certifies }
+
+-- ---- what the solver writes
+none_first : (first further : Option Breach) → first ≡ None → option_or first further ≡ further
+none_first first further none = rw none refl
+
+ended_breach : (item : Instance) (lines : List CertLine) → has_ended (place_after lines) ≡ true → end_breach (cert_rules item) lines [] ≡ None
+ended_breach item lines h = rw h refl
 
 whole_text : (item : Instance) (lines : List CertLine) → IsWhole lines → lines_breach item lines ≡ None → text_breach item (lines_text lines) ≡ None
 whole_text item lines whole none =
+    let ended = whole_ends lines whole in
+    let last = ended_at (place_after lines) ended in
     ap (text_breach item) (sym (append-nil (lines_text lines)))
-    ∙ lines_then_pieces item [] lines [] (whole_has_numbers lines whole)
-    ∙ none_first (lines_breach item lines) (pieces_breach item lines (pieces_of [])) none
-    ∙ ended_breach lines (whole_ends lines whole)
+    ∙ lines_then_pieces (cert_rules item) [] lines (Some place.Start) last.0 [] last.1
+    ∙ none_first (lines_breach item lines) (pieces_breach (cert_rules item) lines (pieces_of [])) none
+    ∙ ended_breach item lines ended
 
 -- the text that the solver writes has no breach
 pub own_passes : (item : Instance) (text : List ℕ) → IsOwnText item text → text_breach item text ≡ None

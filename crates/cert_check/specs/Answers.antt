@@ -1,11 +1,10 @@
 -- What the answer to a line says.
-use Rattle.std.specs.Prelude.{◌≡◌, ℕ, List, [], ◌∷◌, ◌++◌, Option, None}
+use Rattle.std.specs.Prelude.{ℕ, List, Option}
 use Rattle.decision_model.specs.declared.instance.Instance.{Instance}
-use Rattle.value_cert.specs.Rules.{later_rule}
+use Rattle.line_check.specs.Rules as lines
 use Rattle.value_cert.specs.Standards.{rules_of}
 use Rattle.value_cert.specs.declared.line.CertLine.{CertLine}
 
 -- it is the least rule from 2 on that the line breaks, and where it breaks none the check knows of it too
-pub record AnswersLine (Knows : Instance → List CertLine → Type 0) (instance : Instance) (before : List CertLine) (line : CertLine) (answer : Option ℕ) : Type 0 where
-  pub rule : answer ≡ later_rule (rules_of instance) before line
-  pub knows : answer ≡ None → Knows instance (before ++ line ∷ [])
+abbrev pub AnswersLine : (Instance → List CertLine → Type 0) → Instance → List CertLine → CertLine → Option ℕ → Type 0
+AnswersLine Knows instance before line answer = lines.AnswersLine (rules_of instance) (Knows instance) before line answer

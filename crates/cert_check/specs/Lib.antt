@@ -1,5 +1,4 @@
 pub mod Tables
-pub mod Verdicts
 pub mod Answers
 pub mod NewsChecks
 pub mod LotCells

@@ -5,8 +5,16 @@ use Rattle.decision_model.specs.declared.instance.Instance.{Instance}
 use Rattle.decision_model.specs.declared.instance.Instance.TheVariants.{News}
 use Rattle.decision_model.specs.Valid.{IsValid}
 use Rattle.value_cert.specs.Meaning.{Certifies, solved_cert}
-use Rattle.value_cert.specs.Texts.{HasText, cert_text}
+use Rattle.value_cert.specs.Texts.{HasText, cert_lines, cert_text}
 use Rattle.value_cert.specs.declared.cert.Cert.{Cert}
+use Rattle.value_cert.specs.declared.line.CertLine.{CertLine}
+
+-- the lines are those of a certificate that names a policy than which none costs less, and its cost
+pub record AreCertified (item : Instance) (told : List CertLine) : Type 0 where
+  pub cert : Cert
+  pub readable : HasText cert
+  pub lines_are : told ≡ cert_lines cert
+  pub certifies : Certifies item cert
 
 -- the text is that of a certificate that names a policy than which none costs less, and its cost
 pub record IsCertified (item : Instance) (text : List ℕ) : Type 0 where

@@ -1,40 +1,31 @@
 // The check of a certificate, line by line.
-ghost use Rattle.std.specs.Prelude.{◌≡◌, List, [], ◌∷◌, ◌++◌, length, None, Some};
+ghost use Rattle.std.specs.Prelude.{◌≡◌, List, [], ◌∷◌, ◌++◌, length, None};
 ghost use Rattle.decision_model.specs.declared.instance.Instance.{Instance};
 ghost use Rattle.decision_model.specs.Valid.{IsValid};
-ghost use Rattle.value_cert.specs.Breaches.{lines_breach};
+ghost use Rattle.line_check.specs.Verdicts.{fed_verdict, end_verdict};
+ghost use Rattle.value_cert.specs.Breaches.{cert_rules, lines_breach};
 ghost use Rattle.value_cert.specs.declared.line.CertLine.{CertLine};
+ghost use Rattle.cert_check.specs.Meaning.{AreCertified};
 ghost use Rattle.cert_check.specs.Tables.{cell_count, sum_count};
-ghost use Rattle.cert_check.specs.Verdicts.{fed_verdict, end_verdict, passing_verdict};
 ghost use Rattle.cert_check.specs.Checks.{IsPassing, IsCheckOf};
 
 use crate::kind_check::KindCheck;
 use crate::kind_rules::KindRules;
-use crate::verdicts::Verdict;
 use decision_model::Instance;
+use line_check::Verdict;
 use value_cert::{CertLine, Place};
 
 /// A check of a certificate for an instance, which is fed line by line.
 #[derive(Drop)]
 pub struct Check<'a> {
-    // What the lines so far say of the next one.
+    // Where the next line stands.
     place: Place,
-    // The number of the next line, from 1, as far as it can count.
+    // Its number, from 1, as far as it can count.
     number: u64,
     // The last answer.
     verdict: Verdict,
     // The rules of the instance's kind.
     kind: KindCheck<'a>,
-}
-
-// The verdict on lines that break no rule, the next of which would stand at this place.
-fn verdict_at(place: Place) -> Verdict
-    ensures { result ≡ passing_verdict (Some place) }
-{
-    if place.has_ended() {
-        return Verdict::Accepted;
-    }
-    Verdict::Going
 }
 
 impl<'a> Check<'a> {
@@ -55,7 +46,7 @@ impl<'a> Check<'a> {
     }
 
     // The rejection of the next line.
-    pub(crate) fn rejection(&self, rule: u32) -> Verdict
+    fn rejection(&self, rule: u32) -> Verdict
         ensures { result ≡ Verdict.Rejected self.now.number rule }
     {
         Verdict::Rejected {
@@ -67,7 +58,7 @@ impl<'a> Check<'a> {
     // The verdict on lines that broke no rule and a further one.
     fn test(&mut self, line: &CertLine) -> Verdict
         ensures answer { (instance : Instance) (lines : List CertLine) → IsPassing instance self.old lines →
-            result ≡ fed_verdict instance (lines ++ line.now ∷ []) }
+            result ≡ fed_verdict (cert_rules instance) (lines ++ line.now ∷ []) }
         ensures passing { (instance : Instance) (lines : List CertLine) → IsPassing instance self.old lines →
             lines_breach instance (lines ++ line.now ∷ []) ≡ None → IsPassing instance self.new (lines ++ line.now ∷ []) }
     {
@@ -79,7 +70,7 @@ impl<'a> Check<'a> {
         }
         self.place = next;
         self.number = self.number.saturating_add(1);
-        verdict_at(next)
+        Verdict::of_passing(next.has_ended())
     }
 
     /// Takes the next line: the verdict on the lines so far. Once one is rejected, each later answer is the same.
@@ -87,7 +78,7 @@ impl<'a> Check<'a> {
         ensures stands { (instance : Instance) (lines : List CertLine) → IsCheckOf instance self.old lines →
             IsCheckOf instance self.new (lines ++ line.now ∷ []) }
         ensures answer { (instance : Instance) (lines : List CertLine) → IsCheckOf instance self.old lines →
-            result ≡ fed_verdict instance (lines ++ line.now ∷ []) }
+            result ≡ fed_verdict (cert_rules instance) (lines ++ line.now ∷ []) }
     {
         if self.verdict.is_rejected() {
             return self.verdict;
@@ -99,7 +90,11 @@ impl<'a> Check<'a> {
 
     /// The verdict where no more lines come.
     pub fn end(&self) -> Verdict
-        ensures { (instance : Instance) (lines : List CertLine) → IsCheckOf instance self.now lines → result ≡ end_verdict instance lines }
+        ensures answer { (instance : Instance) (lines : List CertLine) → IsCheckOf instance self.now lines →
+            result ≡ end_verdict (cert_rules instance) lines }
+        // Whoever wrote what is accepted.
+        ensures accepted { (instance : Instance) (lines : List CertLine) → IsCheckOf instance self.now lines →
+            result ≡ Verdict.Accepted → AreCertified instance lines }
     {
         match self.verdict {
             Verdict::Going => self.rejection(1),

@@ -13,11 +13,10 @@ mod news;
 mod serial;
 mod tables;
 mod text_check;
-mod verdicts;
 mod whole;
 
 pub use check::Check;
+pub use line_check::Verdict;
 pub use tables::{cells_of, sums_of};
 pub use text_check::TextCheck;
-pub use verdicts::Verdict;
 pub use whole::verdict;

@@ -1,23 +1,32 @@
 // The check of a certificate's text, whose bytes come in any pieces.
-ghost use Rattle.std.specs.Prelude.{◌≡◌, ◌<◌, ◌≤◌, List, ℕ, [], ◌++◌, length, take, true};
+ghost use Rattle.std.specs.Prelude.{◌≡◌, ◌<◌, ◌≤◌, List, ℕ, [], ◌++◌, length, take, true, IfSome};
 ghost use Rattle.decision_model.specs.declared.instance.Instance.{Instance};
 ghost use Rattle.decision_model.specs.Valid.{IsValid};
-ghost use Rattle.value_cert.specs.Breaches.{text_breach};
+ghost use Rattle.line_check.specs.Rules.{MayStand};
+ghost use Rattle.line_check.specs.TextChecks.{FeedsLine};
+ghost use Rattle.line_check.specs.Verdicts.{verdict_of, is_rejection};
+ghost use Rattle.value_cert.specs.Breaches.{cert_rules, text_breach};
+ghost use Rattle.value_cert.specs.CertGrammar.{cert_grammar};
+ghost use Rattle.value_cert.specs.Grammar.{is_ended};
+ghost use Rattle.cert_check.specs.Kinds.{KnowsKind};
 ghost use Rattle.cert_check.specs.Meaning.{IsCertified, IsOwnText};
 ghost use Rattle.cert_check.specs.Tables.{cell_count, sum_count};
-ghost use Rattle.cert_check.specs.Verdicts.{verdict_of, is_rejection};
-ghost use Rattle.cert_check.specs.TextChecks.{Tells, FeedsLine, last_verdict, IsTextCheckOf};
+ghost use Rattle.cert_check.specs.TextChecks.{Tells, last_verdict, IsTextCheckOf};
 
-use crate::check::Check;
-use crate::verdicts::Verdict;
+use crate::kind_check::KindCheck;
+use crate::kind_rules::KindRules;
 use decision_model::Instance;
-use value_cert::{CertErr, CertLine, CertReader};
+use line_check::Verdict;
+use line_text::LineReader;
+use value_cert::{CertGrammar, CertLine};
 
-/// A check of a certificate's text for an instance, whose bytes come in any pieces.
+/// A check of a certificate's text for an instance, whose bytes come in any pieces. Its reader alone places and numbers a
+/// line.
 #[derive(Drop)]
 pub struct TextCheck<'a> {
-    reader: CertReader,
-    check: Check<'a>,
+    reader: LineReader<CertGrammar>,
+    // The rules of the instance's kind.
+    kind: KindCheck<'a>,
     // The last answer.
     verdict: Verdict,
 }
@@ -32,20 +41,25 @@ impl<'a> TextCheck<'a> {
         ensures { IsTextCheckOf instance.now result [] }
     {
         TextCheck {
-            reader: CertReader::new(),
-            check: Check::new(instance, cells, sums),
+            reader: LineReader::new(),
+            kind: KindCheck::new(instance, cells, sums),
             verdict: Verdict::Going,
         }
     }
 
-    // The verdict behind a line, if one ended.
-    fn feed(&mut self, line: Option<CertLine>) -> Verdict
+    // The verdict behind a line, if one of this number ended.
+    fn verdict_behind(&mut self, line: Option<CertLine>, number: u64) -> Verdict
+        requires { IfSome line (MayStand cert_grammar) }
         ensures reader { self.new.reader ≡ self.old.reader }
-        ensures feeds { FeedsLine self.old.check self.new.check line result }
+        ensures feeds { (instance : Instance) → FeedsLine (cert_rules instance) (KnowsKind self.old.kind instance) (KnowsKind self.new.kind instance)
+            number (is_ended self.old.reader.place) line result }
     {
-        match line {
-            Some(line) => self.check.feed(&line),
-            None => Verdict::Going,
+        let Some(line) = line else {
+            return Verdict::Going;
+        };
+        match self.kind.feed(&line) {
+            Some(rule) => Verdict::Rejected { line: number, rule },
+            None => Verdict::of_passing(self.reader.has_ended()),
         }
     }
 
@@ -61,13 +75,17 @@ impl<'a> TextCheck<'a> {
         if self.verdict.is_rejected() {
             return piece.len();
         }
+        let number = self.reader.number();
         match self.reader.push(piece) {
-            Ok(progress) => {
-                self.verdict = self.feed(progress.line);
-                progress.taken
+            Ok(taken) => {
+                self.verdict = self.verdict_behind(taken.line, number);
+                taken.count
             }
-            Err(CertErr::BadLine(line)) => {
-                self.verdict = Verdict::Rejected { line, rule: 1 };
+            Err(bad) => {
+                self.verdict = Verdict::Rejected {
+                    line: bad.number,
+                    rule: 1,
+                };
                 piece.len()
             }
         }
@@ -104,7 +122,10 @@ impl<'a> TextCheck<'a> {
             IsOwnText instance bytes → result ≡ Verdict.Accepted }
     {
         match self.verdict {
-            Verdict::Going => self.check.rejection(1),
+            Verdict::Going => Verdict::Rejected {
+                line: self.reader.number(),
+                rule: 1,
+            },
             Verdict::Accepted | Verdict::Rejected { .. } => self.verdict,
         }
     }

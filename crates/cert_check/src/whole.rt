@@ -3,13 +3,13 @@ ghost use Rattle.std.specs.Prelude.{◌≡◌, IfOk};
 ghost use Rattle.decision_model.specs.Valid.{IsValid};
 ghost use Rattle.value_cert.specs.Breaches.{text_breach};
 ghost use Rattle.cert_check.specs.Meaning.{IsCertified, IsOwnText};
-ghost use Rattle.cert_check.specs.Verdicts.{verdict_of};
+ghost use Rattle.line_check.specs.Verdicts.{verdict_of};
 
 use crate::tables::{cells_of, sums_of};
 use crate::text_check::TextCheck;
-use crate::verdicts::Verdict;
 use decision_model::Instance;
 use fraction128::Memory;
+use line_check::Verdict;
 use std::alloc::Global;
 
 /// The verdict on a whole text as a certificate for the instance. It is never `Going`.

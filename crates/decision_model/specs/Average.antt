@@ -2,7 +2,7 @@
 use Rattle.std.specs.Prelude.{ℕ, ◌+◌, ◌-◌, ◌*◌, ◌^◌, ◌<◌, ◌≤◌, List, slice_index, sum, pos, ◌-ℤ◌, ◌≤ℤ◌, IsTrue, Bool, nat_lt, nat_le}
 use Rattle.demand_law.specs.Law.{greatest_of}
 use Rattle.decision_model.specs.declared.average.Average.{Average}
-use Rattle.decision_model.specs.declared.limits.TheConstants.{MOST_LEAD, MOST_SETUP, MOST_POSITIONS, MOST_BITS}
+use Rattle.decision_model.specs.Limits.{most_lead, most_setup, most_positions, most_bits}
 use Rattle.decision_model.specs.declared.kinds.Kind.TheVariants as kind
 use Rattle.decision_model.specs.Rules.{Rules}
 use Rattle.decision_model.specs.Rates.{IsRate}
@@ -11,8 +11,8 @@ use Rattle.decision_model.specs.Positions.{IsPosition, above_zero, positions_fro
 
 -- numbers in range
 pub record IsReadableAverage (average : Average) : Type 0 where
-  pub lead : average.lead ≤ MOST_LEAD
-  pub setup : average.setup ≤ MOST_SETUP
+  pub lead : average.lead ≤ most_lead
+  pub setup : average.setup ≤ most_setup
   pub holding : IsRate average.holding
   pub stockout : IsRate average.stockout
   pub law : IsDemandLaw average.law
@@ -60,20 +60,20 @@ pub record IsRegularAverage (average : Average) : Type 0 where
   pub readable : IsReadableAverage average
   pub has_demand : HasDemand average.law
   pub unit_demand : IsTrue average.lots → IsUnitDemand average.law
-  pub grid : average_positions average ≤ MOST_POSITIONS
+  pub grid : average_positions average ≤ most_positions
 
 pub record IsValidAverage (average : Average) : Type 0 where
   pub regular : IsRegularAverage average
-  pub width : average_width average ≤ 2 ^ MOST_BITS
+  pub width : average_width average ≤ 2 ^ most_bits
 
 abbrev pub average_rules : Average → Rules
 average_rules average = record {
   kind = kind.Average;
   readable = IsReadableAverage average;
-  grid = average_positions average ≤ MOST_POSITIONS;
-  grid_test = nat_le (average_positions average) MOST_POSITIONS;
-  width = average_width average ≤ 2 ^ MOST_BITS;
-  width_test = nat_le (average_width average) (2 ^ MOST_BITS);
+  grid = average_positions average ≤ most_positions;
+  grid_test = nat_le (average_positions average) most_positions;
+  width = average_width average ≤ 2 ^ most_bits;
+  width_test = nat_le (average_width average) (2 ^ most_bits);
   regular = IsRegularAverage average;
   valid = IsValidAverage average;
 }

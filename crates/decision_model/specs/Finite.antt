@@ -2,7 +2,7 @@
 use Rattle.std.specs.Prelude.{ℕ, ◌+◌, ◌-◌, ◌*◌, ◌^◌, ◌≤◌, ℤ, pos, ◌-ℤ◌, ◌≤ℤ◌, IfSome, Bool, nat_le, ◌&&◌}
 use Rattle.demand_law.specs.Sequences.{greatest_in}
 use Rattle.decision_model.specs.declared.finite.Finite.{Finite}
-use Rattle.decision_model.specs.declared.limits.TheConstants.{MOST_LEAD, MOST_SETUP, MOST_ORDER, MOST_FINITE_POSITIONS, MOST_CELLS, MOST_BITS}
+use Rattle.decision_model.specs.Limits.{most_lead, most_setup, most_order, most_finite_positions, most_cells, most_bits}
 use Rattle.decision_model.specs.declared.kinds.Kind.TheVariants as kind
 use Rattle.decision_model.specs.Rules.{Rules}
 use Rattle.decision_model.specs.Rates.{IsRate, IsHorizon, IsDiscount}
@@ -12,13 +12,13 @@ use Rattle.decision_model.specs.Positions.{IsPosition, IsCap, above_zero, low_af
 -- the greatest order of a period is from 1 to 1,000,000
 pub record IsMostOrder (order : ℕ) : Type 0 where
   pub least : 1 ≤ order
-  pub most : order ≤ MOST_ORDER
+  pub most : order ≤ most_order
 
 -- numbers in range, and a law or one each for all periods that a cost looks at
 pub record IsReadableFinite (finite : Finite) : Type 0 where
   pub periods : IsHorizon finite.periods
-  pub lead : finite.lead ≤ MOST_LEAD
-  pub setup : finite.setup ≤ MOST_SETUP
+  pub lead : finite.lead ≤ most_lead
+  pub setup : finite.setup ≤ most_setup
   pub unit : IsRate finite.unit
   pub holding : IsRate finite.holding
   pub stockout : IsRate finite.stockout
@@ -41,11 +41,11 @@ finite_positions finite = positions_from (finite_low finite (finite.periods + 1)
 
 -- at most 20,000 positions, and at most 1,000,000 cells of a period and a position
 pub record FiniteGridFits (finite : Finite) : Type 0 where
-  pub positions : finite_positions finite ≤ MOST_FINITE_POSITIONS
-  pub cells : finite.periods * finite_positions finite ≤ MOST_CELLS
+  pub positions : finite_positions finite ≤ most_finite_positions
+  pub cells : finite.periods * finite_positions finite ≤ most_cells
 
 abbrev pub finite_grid_fits : Finite → Bool
-finite_grid_fits finite = nat_le (finite_positions finite) MOST_FINITE_POSITIONS && nat_le (finite.periods * finite_positions finite) MOST_CELLS
+finite_grid_fits finite = nat_le (finite_positions finite) most_finite_positions && nat_le (finite.periods * finite_positions finite) most_cells
 
 -- the most that a unit can lack: all demand of an order's periods at the lowest position
 abbrev pub finite_most_lacking : Finite → ℕ
@@ -74,7 +74,7 @@ pub record IsRegularFinite (finite : Finite) : Type 0 where
 
 pub record IsValidFinite (finite : Finite) : Type 0 where
   pub regular : IsRegularFinite finite
-  pub width : finite_width finite ≤ 2 ^ MOST_BITS
+  pub width : finite_width finite ≤ 2 ^ most_bits
 
 abbrev pub finite_rules : Finite → Rules
 finite_rules finite = record {
@@ -82,8 +82,8 @@ finite_rules finite = record {
   readable = IsReadableFinite finite;
   grid = FiniteGridFits finite;
   grid_test = finite_grid_fits finite;
-  width = finite_width finite ≤ 2 ^ MOST_BITS;
-  width_test = nat_le (finite_width finite) (2 ^ MOST_BITS);
+  width = finite_width finite ≤ 2 ^ most_bits;
+  width_test = nat_le (finite_width finite) (2 ^ most_bits);
   regular = IsRegularFinite finite;
   valid = IsValidFinite finite;
 }

@@ -1,3 +1,4 @@
+pub mod Limits
 pub mod Rules
 pub mod Positions
 pub mod DemandLaws
@@ -11,6 +12,7 @@ pub mod Serial
 pub mod Nodes
 pub mod Shape
 pub mod Pauses
+pub mod PauseFacts
 pub mod Load
 pub mod Network
 pub mod Paths

@@ -5,7 +5,7 @@ use Rattle.decision_model.specs.declared.network.NodeSpec.{NodeSpec}
 use Rattle.decision_model.specs.declared.network.Link.{Link}
 use Rattle.decision_model.specs.declared.network.Rule.{Rule}
 use Rattle.decision_model.specs.declared.network.Rule.TheVariants.{Base, MinMax, Lot, Echelon, House}
-use Rattle.decision_model.specs.declared.limits.TheConstants.{MOST_LOAD}
+use Rattle.decision_model.specs.Limits.{most_load}
 use Rattle.decision_model.specs.Nodes.{node_at, is_from, peak_of, top_of, first_failing}
 use Rattle.decision_model.specs.Shape.{is_below}
 
@@ -63,4 +63,4 @@ load net k = (node_at net.nodes k).initial + need_most net k + order_limit net k
 
 -- the first node, from 1, whose load is too large
 unfoldable pub overloaded_node : Network → Option ℕ
-overloaded_node net = option_map suc (first_failing (λ k. nat_le (load net k) MOST_LOAD) (length net.nodes))
+overloaded_node net = option_map suc (first_failing (λ k. nat_le (load net k) most_load) (length net.nodes))

@@ -2,7 +2,7 @@
 use Rattle.std.specs.Prelude.{◌≡◌, ℕ, ◌+◌, ◌-◌, ◌<◌, ◌≤◌, length, slice_index, All, Bool, true, nat_lt, Option, find, ⊤}
 use Rattle.std.specs.List.{range_with_len}
 use Rattle.decision_model.specs.declared.lots.LotSize.{LotSize}
-use Rattle.decision_model.specs.declared.limits.TheConstants.{MOST_LOT_PERIODS, MOST_LOT_DEMAND, MOST_LOT_SETUP}
+use Rattle.decision_model.specs.Limits.{most_lot_periods, most_lot_demand, most_lot_setup}
 use Rattle.decision_model.specs.declared.kinds.Kind.TheVariants as kind
 use Rattle.decision_model.specs.Rules.{Rules}
 use Rattle.decision_model.specs.Rates.{IsRate}
@@ -10,12 +10,12 @@ use Rattle.decision_model.specs.Rates.{IsRate}
 -- from 1 to 2,000 periods, each with a demand and rates in range
 pub record IsReadableLots (lots : LotSize) : Type 0 where
   pub some_period : 1 ≤ length lots.demand
-  pub most_periods : length lots.demand ≤ MOST_LOT_PERIODS
+  pub most_periods : length lots.demand ≤ most_lot_periods
   pub setup_each : length lots.setup ≡ length lots.demand
   pub unit_each : length lots.unit ≡ length lots.demand
   pub holding_each : length lots.holding ≡ length lots.demand
-  pub demand : All (λ units. units ≤ MOST_LOT_DEMAND) lots.demand
-  pub setup : All (λ cost. cost ≤ MOST_LOT_SETUP) lots.setup
+  pub demand : All (λ units. units ≤ most_lot_demand) lots.demand
+  pub setup : All (λ cost. cost ≤ most_lot_setup) lots.setup
   pub unit : All IsRate lots.unit
   pub holding : All IsRate lots.holding
 

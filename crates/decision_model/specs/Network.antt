@@ -5,7 +5,7 @@ use Rattle.decision_model.specs.declared.network.Network.{Network}
 use Rattle.decision_model.specs.declared.network.NodeSpec.{NodeSpec}
 use Rattle.decision_model.specs.declared.network.Demand.{Demand}
 use Rattle.decision_model.specs.declared.network.Demand.TheVariants.{Nobody, Trace, Drawn}
-use Rattle.decision_model.specs.declared.limits.TheConstants.{MOST_NETWORK_PERIODS, MOST_NODES, MOST_PAUSES}
+use Rattle.decision_model.specs.Limits.{most_network_periods, most_nodes, most_pauses}
 use Rattle.decision_model.specs.declared.kinds.Kind.TheVariants as kind
 use Rattle.decision_model.specs.Rules.{Rules}
 use Rattle.decision_model.specs.Nodes.{IsReadableNode}
@@ -16,11 +16,11 @@ use Rattle.decision_model.specs.Load.{overloaded_node}
 -- numbers in range, and lists with their lengths
 pub record IsReadableNetwork (net : Network) : Type 0 where
   pub some_periods : 1 ≤ net.periods
-  pub few_periods : net.periods ≤ MOST_NETWORK_PERIODS
+  pub few_periods : net.periods ≤ most_network_periods
   pub some_nodes : 1 ≤ length net.nodes
-  pub few_nodes : length net.nodes ≤ MOST_NODES
+  pub few_nodes : length net.nodes ≤ most_nodes
   pub nodes : All (IsReadableNode net.periods) net.nodes
-  pub few_pauses : length net.pauses ≤ MOST_PAUSES
+  pub few_pauses : length net.pauses ≤ most_pauses
   pub pauses : All (IsReadableSpan net.periods (length net.nodes)) net.pauses
 
 -- ---- draws of demand

@@ -11,7 +11,7 @@ use Rattle.decision_model.specs.declared.network.Rule.{Rule}
 use Rattle.decision_model.specs.declared.network.Rule.TheVariants.{Base, MinMax, Lot, Echelon, House}
 use Rattle.decision_model.specs.declared.network.Demand.{Demand}
 use Rattle.decision_model.specs.declared.network.Demand.TheVariants.{Nobody, Trace, Drawn}
-use Rattle.decision_model.specs.declared.limits.TheConstants.{MOST_LOAD}
+use Rattle.decision_model.specs.Limits.{most_load}
 use Rattle.decision_model.specs.Nodes.{IsReadableNode, IsReadableRule, IsReadableDemand, node_at, no_node, or_place, first_failing, peak_of, greatest, top_of}
 use Rattle.decision_model.specs.Positions.{above_zero}
 use Rattle.decision_model.specs.Shape.{is_new_name, is_later, are_distinct, has_single_paths, is_shaped_at, misshapen_node}
@@ -79,10 +79,10 @@ unfolding overlapping_span
 apart_at spans apart k lt = first_failing-none (is_apart_at spans) (length spans) k (map_suc-none (first_failing (is_apart_at spans) (length spans)) apart) lt
 
 -- no load is too large
-pub light_at : (net : Network) → overloaded_node net ≡ None → (k : ℕ) → k < length net.nodes → load net k ≤ MOST_LOAD
+pub light_at : (net : Network) → overloaded_node net ≡ None → (k : ℕ) → k < length net.nodes → load net k ≤ most_load
 unfolding overloaded_node
 light_at net light k lt =
-    leb-true (load net k) MOST_LOAD (first_failing-none (λ i. nat_le (load net i) MOST_LOAD) (length net.nodes) k (map_suc-none (first_failing (λ i. nat_le (load net i) MOST_LOAD) (length net.nodes)) light) lt)
+    leb-true (load net k) most_load (first_failing-none (λ i. nat_le (load net i) most_load) (length net.nodes) k (map_suc-none (first_failing (λ i. nat_le (load net i) most_load) (length net.nodes)) light) lt)
 
 -- each node is readable
 pub node_readable : (net : Network) → IsReadableNetwork net → (k : ℕ) → k < length net.nodes → IsReadableNode net.periods (node_at net.nodes k)

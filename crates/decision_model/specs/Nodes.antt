@@ -10,7 +10,7 @@ use Rattle.decision_model.specs.declared.network.Rule.{Rule}
 use Rattle.decision_model.specs.declared.network.Rule.TheVariants.{Base, MinMax, Lot, Echelon, House}
 use Rattle.decision_model.specs.declared.network.Demand.{Demand}
 use Rattle.decision_model.specs.declared.network.Demand.TheVariants.{Nobody, Trace, Drawn}
-use Rattle.decision_model.specs.declared.limits.TheConstants.{MOST_NAME, MOST_INITIAL, MOST_LOT, MOST_HOUSE_INDEX, MOST_HOUSE_CAP, MOST_SOURCES, MOST_NETWORK_LEAD, MOST_TRACE}
+use Rattle.decision_model.specs.Limits.{most_name, most_initial, most_lot, most_house_index, most_house_cap, most_sources, most_network_lead, most_trace}
 use Rattle.decision_model.specs.Positions.{IsPosition, above_zero}
 use Rattle.decision_model.specs.Rates.{IsRate}
 use Rattle.decision_model.specs.DemandLaws.{IsDemandLaw}
@@ -28,15 +28,15 @@ abbrev pub outside : List ℕ
 outside = codes "outside"
 
 abbrev pub is_node_name : List ℕ → Bool
-is_node_name name = nat_le 1 (length name) && nat_le (length name) MOST_NAME && list_all is_name_byte name && not (bytes_eq name outside)
+is_node_name name = nat_le 1 (length name) && nat_le (length name) most_name && list_all is_name_byte name && not (bytes_eq name outside)
 
 -- ---- rules
 abbrev pub IsReadableRule : Rule → Type 0
 IsReadableRule (Base level) = IsPosition level
 IsReadableRule (MinMax low high) = IsPosition low × IsPosition high × (low <ℤ high)
-IsReadableRule (Lot reorder lot) = IsPosition reorder × (1 ≤ lot) × (lot ≤ MOST_LOT)
+IsReadableRule (Lot reorder lot) = IsPosition reorder × (1 ≤ lot) × (lot ≤ most_lot)
 IsReadableRule (Echelon level) = IsPosition level
-IsReadableRule (House index cap) = (index ≤ MOST_HOUSE_INDEX) × (cap ≤ MOST_HOUSE_CAP)
+IsReadableRule (House index cap) = (index ≤ most_house_index) × (cap ≤ most_house_cap)
 
 -- no order takes the position above this
 abbrev pub peak_of : Rule → ℕ
@@ -66,22 +66,22 @@ top_of (Drawn law) = greatest_of law
 
 abbrev pub IsReadableDemand : ℕ → Demand → Type 0
 IsReadableDemand periods Nobody = ⊤
-IsReadableDemand periods (Trace ds) = (length ds ≡ periods) × All (λ d. d ≤ MOST_TRACE) ds
+IsReadableDemand periods (Trace ds) = (length ds ≡ periods) × All (λ d. d ≤ most_trace) ds
 IsReadableDemand periods (Drawn law) = IsDemandLaw law
 
 -- ---- nodes
 pub record IsReadableLink (link : Link) : Type 0 where
-  pub lead : link.lead ≤ MOST_NETWORK_LEAD
-  pub order_lead : link.order_lead ≤ MOST_NETWORK_LEAD
+  pub lead : link.lead ≤ most_network_lead
+  pub order_lead : link.order_lead ≤ most_network_lead
 
 pub record IsReadableNode (periods : ℕ) (node : NodeSpec) : Type 0 where
   pub name : IsTrue (is_node_name node.name)
-  pub initial : node.initial ≤ MOST_INITIAL
+  pub initial : node.initial ≤ most_initial
   pub holding : IsRate node.holding
   pub stockout : IsRate node.stockout
   pub rule : IsReadableRule node.rule
   pub some_sources : 1 ≤ length node.sources
-  pub few_sources : length node.sources ≤ MOST_SOURCES
+  pub few_sources : length node.sources ≤ most_sources
   pub sources : All IsReadableLink node.sources
   pub demand : IsReadableDemand periods node.demand
 

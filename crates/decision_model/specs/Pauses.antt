@@ -1,5 +1,5 @@
 -- Pauses, of which no two of one node and kind share a period.
-use Rattle.std.specs.Prelude.{ℕ, suc, ◌≤◌, ◌<◌, ◌&&◌, ◌||◌, List, length, take, Bool, true, false, not, ◌==◌, nat_le, nat_lt, Option, option_map}
+use Rattle.std.specs.Prelude.{ℕ, suc, ◌≤◌, ◌<◌, ◌&&◌, List, length, take, Bool, true, false, not, ◌==◌, nat_le, max, Option, option_map}
 use Rattle.std.specs.List.{list_all, list_any}
 use Rattle.std.proofs.Common.{get_or}
 use Rattle.decision_model.specs.declared.network.Span.{Span}
@@ -31,8 +31,13 @@ holds what node t span = same_pause span.what what && (span.node == node) && nat
 abbrev pub is_paused : List Span → Pause → ℕ → ℕ → Bool
 is_paused spans what node t = list_any (holds what node t) spans
 
+-- whether both hold the later of their first periods: where they share a period, they share this one
+abbrev pub share_a_period : Span → Span → Bool
+share_a_period a b = holds b.what b.node (max a.from b.from) a && holds b.what b.node (max a.from b.from) b
+
+-- whether no period is paused by both
 abbrev pub are_apart : Span → Span → Bool
-are_apart a b = not (same_pause a.what b.what) || not (a.node == b.node) || nat_lt a.to b.from || nat_lt b.to a.from
+are_apart a b = not (share_a_period a b)
 
 abbrev pub no_span : Span
 no_span = record { node = 0; what = Orders; from = 0; to = 0 }

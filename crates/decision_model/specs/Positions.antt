@@ -1,17 +1,17 @@
 -- Positions, of which a grid has those from a low end to a cap.
 use Rattle.std.specs.Prelude.{ℕ, ◌*◌, ℤ, pos, negsuc, ◌+ℤ◌, ◌-ℤ◌, ◌≤ℤ◌}
 use Rattle.std.specs.Int.{int_min}
-use Rattle.decision_model.specs.declared.limits.TheConstants.{LEAST_POSITION, MOST_POSITION, MOST_CAP}
+use Rattle.decision_model.specs.Limits.{least_position, most_position, most_cap}
 
 -- a position of an instance is from -1,000,000 to 1,000,000
 pub record IsPosition (x : ℤ) : Type 0 where
-  pub least : LEAST_POSITION ≤ℤ x
-  pub most : x ≤ℤ MOST_POSITION
+  pub least : least_position ≤ℤ x
+  pub most : x ≤ℤ most_position
 
 -- a cap is from 0 to 1,000,000
 pub record IsCap (x : ℤ) : Type 0 where
   pub least : pos 0 ≤ℤ x
-  pub most : x ≤ℤ pos MOST_CAP
+  pub most : x ≤ℤ pos most_cap
 
 -- a number, or 0 in place of one below 0
 abbrev pub above_zero : ℤ → ℕ

@@ -3,7 +3,7 @@ use Rattle.std.specs.Prelude.{◌≡◌, ℕ, ◌+◌, ◌-◌, ◌*◌, ◌^◌
 use Rattle.std.specs.List.{AllAdjacentBelow}
 use Rattle.demand_law.specs.Sequences.{greatest_in}
 use Rattle.decision_model.specs.declared.serial.Serial.{Serial}
-use Rattle.decision_model.specs.declared.limits.TheConstants.{MOST_ECHELONS, MOST_POSITIONS, MOST_CELLS, MOST_BITS}
+use Rattle.decision_model.specs.Limits.{most_echelons, most_positions, most_cells, most_bits}
 use Rattle.decision_model.specs.declared.kinds.Kind.TheVariants as kind
 use Rattle.decision_model.specs.Rules.{Rules}
 use Rattle.decision_model.specs.Rates.{IsRate, IsHorizon, IsDiscount}
@@ -14,7 +14,7 @@ use Rattle.decision_model.specs.Positions.{IsPosition, IsCap, low_after, positio
 pub record IsReadableSerial (serial : Serial) : Type 0 where
   pub periods : IsHorizon serial.periods
   pub some_echelon : 1 ≤ length serial.holding
-  pub most_echelons : length serial.holding ≤ MOST_ECHELONS
+  pub most_echelons : length serial.holding ≤ most_echelons
   pub unit_each : length serial.unit ≡ length serial.holding
   pub start_each : length serial.start ≡ length serial.holding
   pub holding : All IsRate serial.holding
@@ -37,11 +37,11 @@ serial_positions serial = positions_from (serial_low serial (serial.periods + 1)
 
 -- at most 2,000 positions, and at most 1,000,000 cells of a period, an echelon and a position
 pub record SerialGridFits (serial : Serial) : Type 0 where
-  pub positions : serial_positions serial ≤ MOST_POSITIONS
-  pub cells : serial.periods * length serial.holding * serial_positions serial ≤ MOST_CELLS
+  pub positions : serial_positions serial ≤ most_positions
+  pub cells : serial.periods * length serial.holding * serial_positions serial ≤ most_cells
 
 abbrev pub serial_grid_fits : Serial → Bool
-serial_grid_fits serial = nat_le (serial_positions serial) MOST_POSITIONS && nat_le (serial.periods * length serial.holding * serial_positions serial) MOST_CELLS
+serial_grid_fits serial = nat_le (serial_positions serial) most_positions && nat_le (serial.periods * length serial.holding * serial_positions serial) most_cells
 
 -- a whole number above each cost of a period
 unfoldable pub serial_cost_bound : Serial → ℕ
@@ -62,7 +62,7 @@ pub record IsRegularSerial (serial : Serial) : Type 0 where
 
 pub record IsValidSerial (serial : Serial) : Type 0 where
   pub regular : IsRegularSerial serial
-  pub width : serial_width serial ≤ 2 ^ MOST_BITS
+  pub width : serial_width serial ≤ 2 ^ most_bits
 
 abbrev pub serial_rules : Serial → Rules
 serial_rules serial = record {
@@ -70,8 +70,8 @@ serial_rules serial = record {
   readable = IsReadableSerial serial;
   grid = SerialGridFits serial;
   grid_test = serial_grid_fits serial;
-  width = serial_width serial ≤ 2 ^ MOST_BITS;
-  width_test = nat_le (serial_width serial) (2 ^ MOST_BITS);
+  width = serial_width serial ≤ 2 ^ most_bits;
+  width_test = nat_le (serial_width serial) (2 ^ most_bits);
   regular = IsRegularSerial serial;
   valid = IsValidSerial serial;
 }

@@ -3,7 +3,7 @@ ghost use Rattle.std.specs.Prelude.{◌≡◌, ℕ, ◌+◌, ◌*◌, ◌^◌, �
 ghost use Rattle.decision_model.specs.Positions.{above_zero, low_after, positions_from};
 
 /// A number, or 0 in place of one below 0.
-pub(crate) fn above_zero(number: i64) -> u64
+pub fn above_zero(number: i64) -> u64
     ensures { result ≡ above_zero number }
 {
     u64::try_from(number).unwrap_or(0)

@@ -48,10 +48,7 @@ impl Items<u32> {
     pub(crate) fn copy(&self, alloc: Global) -> Result<Items<u32>, Memory>
         ensures { IfOk result (λ items. items ≡ self.now) }
     {
-        match self.items.to_vec(alloc) {
-            Ok(items) => Ok(Items::new(items)),
-            Err(_) => Err(Memory),
-        }
+        Ok(Items::new(self.items.to_vec(alloc)?))
     }
 }
 

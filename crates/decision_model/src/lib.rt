@@ -11,19 +11,13 @@ mod grid;
 mod instance;
 mod items;
 mod kinds;
-#[cfg(test)]
-mod least_tests;
 pub mod limits;
 mod load;
 mod lots;
 mod network;
-#[cfg(test)]
-mod network_tests;
 mod news;
 mod pauses;
 mod problem;
-#[cfg(test)]
-mod problem_tests;
 mod room;
 mod rules;
 mod serial;
@@ -31,8 +25,6 @@ mod serial_problem;
 mod shape;
 mod stock;
 mod sweep;
-#[cfg(test)]
-mod tests;
 mod walk;
 mod width;
 mod window;
@@ -40,6 +32,7 @@ mod window;
 pub use average::{Average, has_demand, is_unit_demand};
 pub use average_problem::AverageRun;
 pub use finite::Finite;
+pub use grid::above_zero;
 pub use instance::{Instance, grid_fits, kind, width_ok};
 pub use items::{Amounts, Items, Laws, Positions};
 pub use kinds::Kind;

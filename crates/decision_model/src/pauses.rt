@@ -30,8 +30,13 @@ fn is_apart_from(others: &[Span], span: &Span) -> bool
     true
 }
 
+// A span that ends before it begins holds no period, and is apart from all.
 fn are_apart(one: &Span, other: &Span) -> bool
     ensures { result ≡ are_apart one.now other.now }
 {
-    one.what != other.what || one.node != other.node || one.to < other.from || other.to < one.from
+    let first_shared = one.from.max(other.from);
+    one.what != other.what
+        || one.node != other.node
+        || one.to < first_shared
+        || other.to < first_shared
 }

@@ -99,13 +99,8 @@ impl Law {
     pub fn copy(&self, alloc: Global) -> Result<Law, Memory>
         ensures { IfOk result (λ law. law ≡ self.now) }
     {
-        let Ok(weights) = self.weights.to_vec(alloc) else {
-            return Err(Memory);
-        };
-        match Law::from_weights(alloc, weights) {
-            Ok(law) => Ok(law),
-            Err(_) => Err(Memory),
-        }
+        let weights = self.weights.to_vec(alloc)?;
+        Ok(Law::from_weights(alloc, weights)?)
     }
 
     /// The weight of a demand, 0 above the greatest.
@@ -156,40 +151,5 @@ impl Law {
         ensures law { IsLaw self.now }
     {
         &self.weights
-    }
-}
-
-#[cfg(test)]
-mod tests {
-    use super::*;
-    use std::test::Fail;
-
-    #[test]
-    fn sums_of_weights(rt: HostRuntime) -> Result<(), Fail> {
-        let law = Law::from_points(rt.alloc(), &[(3, 2), (0, 1)])?;
-        for (demand, sum) in [(0, 1), (2, 1), (3, 3), (4, 3), (4_294_967_295, 3)] {
-            assert_eq!(rt; law.upto(demand), sum, "up to {demand}");
-        }
-        assert_eq!(rt; law.total(), 3);
-        Ok(())
-    }
-
-    #[test]
-    fn picks(rt: HostRuntime) -> Result<(), Fail> {
-        let law = Law::from_points(rt.alloc(), &[(3, 2), (0, 1), (7, 1)])?;
-        for (word, demand) in [
-            (0, 0),
-            (1_073_741_823, 0),
-            (1_073_741_824, 3),
-            (3_221_225_471, 3),
-            (3_221_225_472, 7),
-            (4_294_967_295, 7),
-        ] {
-            assert_eq!(rt; law.pick(word), demand, "at {word}");
-        }
-        let copied = law.copy(rt.alloc())?;
-        assert_eq!(rt; copied.weights(), law.weights());
-        assert_eq!(rt; copied.pick(3_221_225_472), 7);
-        Ok(())
     }
 }

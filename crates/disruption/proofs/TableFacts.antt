@@ -1,7 +1,8 @@
 -- What spans of a table hold, and what a table is with one span more.
-use Rattle.std.proofs.Common.{◌≡◌, ◌⊎◌, ◌≢◌, ℕ, zero, suc, ◌<◌, ◌≤◌, List, [], ◌∷◌, length, get_or, insert, All, Bool, true, false, not, ◌&&◌, ◌||◌, ◌==◌, nat_lt, nat_le, inl, inr, refl, sym, ◌∙◌, ap, subst, arith}
+use Rattle.std.proofs.Common.{◌≡◌, ◌⊎◌, ◌≢◌, ℕ, zero, suc, ◌<◌, ◌≤◌, List, [], ◌∷◌, length, get_or, insert, All, Bool, true, false, not, ◌&&◌, ◌||◌, ◌==◌, nat_le, max, inl, inr, refl, sym, ◌∙◌, ap, subst, arith}
 use Rattle.std.specs.List.{list_any, list_all}
-use Rattle.std.proofs.lemmas.Bool.{eqb-true, leb-true, ltb-true, eq-eqb, cases_lt, cases_order}
+use Rattle.std.proofs.lemmas.Bool.{eqb-true, leb-true, le-leb, eq-eqb, cases_lt, cases_order}
+use Rattle.std.proofs.Math.Nat.{le-max_left, le-max_right, max-le}
 use Rattle.std.proofs.lemmas.List.Folds.{list_any_none, list_any_at}
 use Rattle.std.proofs.lemmas.List.Elements.{All-from_get_or}
 use Rattle.decision_model.specs.declared.network.Span.{Span}
@@ -121,49 +122,68 @@ last_decides xs what node t k table lt begins rest =
     by_place i within other (inr most) = later_holds_not what node t (get_or xs i no_span) (rest i (omega arith) within)
 
 -- ---- one span more
-either : (a b : Bool) → (a || b) ≡ true → (a ≡ true) ⊎ (b ≡ true)
-either true b e = inl refl
-either false b e = inr e
+same_kind : (one other : Pause) (n m : ℕ) → group n one ≡ group m other → same_pause one other ≡ true
+same_kind Orders Orders n m same = refl
+same_kind Orders Shipments n m same = absurd (omega arith)
+same_kind Orders Receipts n m same = absurd (omega arith)
+same_kind Shipments Orders n m same = absurd (omega arith)
+same_kind Shipments Shipments n m same = refl
+same_kind Shipments Receipts n m same = absurd (omega arith)
+same_kind Receipts Orders n m same = absurd (omega arith)
+same_kind Receipts Shipments n m same = absurd (omega arith)
+same_kind Receipts Receipts n m same = refl
 
-same_ends : (n m from to start end : ℕ) → n ≡ m → (not (n == m) || nat_lt to start || nat_lt end from) ≡ true → (to < start) ⊎ (end < from)
-same_ends n m from to start end same e = by_test (either (nat_lt to start) (nat_lt end from) (ap (λ b. not b || nat_lt to start || nat_lt end from) (sym (eq-eqb n m same)) ∙ e))
+same_node : (one other : Pause) (n m : ℕ) → group n one ≡ group m other → n ≡ m
+same_node Orders Orders n m same = omega arith
+same_node Orders Shipments n m same = omega arith
+same_node Orders Receipts n m same = omega arith
+same_node Shipments Orders n m same = omega arith
+same_node Shipments Shipments n m same = omega arith
+same_node Shipments Receipts n m same = omega arith
+same_node Receipts Orders n m same = omega arith
+same_node Receipts Shipments n m same = omega arith
+same_node Receipts Receipts n m same = omega arith
+
+-- a span of a kind and node holds each period between its ends
+held_between : (what : Pause) (node t : ℕ) (a : Span) → group a.node a.what ≡ group node what → a.from ≤ t → t ≤ a.to → holds what node t a ≡ true
+held_between what node t a same from to =
+    rw (same_kind a.what what a.node node same, eq-eqb a.node node (same_node a.what what a.node node same), le-leb a.from t from, le-leb t a.to to) refl
+
+-- two spans that are apart hold no period both
+apart_holds_not : (x a : Span) (t : ℕ) → are_apart x a ≡ true → group x.node x.what ≡ group a.node a.what → x.from ≤ t → t ≤ x.to → a.from ≤ t → t ≤ a.to → ⊥
+apart_holds_not x a t apart same from to start end =
+    let first = max x.from a.from in
+    let below : first ≤ t = max-le from start in
+    let one = held_between a.what a.node first x same (le-max_left x.from a.from) (omega (arith, below)) in
+    let other = held_between a.what a.node first a refl (le-max_right x.from a.from) (omega (arith, below)) in
+    shared (holds a.what a.node first x) (holds a.what a.node first a) one other apart
   where
-    by_test : (nat_lt to start ≡ true) ⊎ (nat_lt end from ≡ true) → (to < start) ⊎ (end < from)
-    by_test (inl after) = inl (ltb-true to start after)
-    by_test (inr before) = inr (ltb-true end from before)
-
-apart_ends : (one other : Pause) (n m from to start end : ℕ) → group n one ≡ group m other → (not (same_pause one other) || not (n == m) || nat_lt to start || nat_lt end from) ≡ true → (to < start) ⊎ (end < from)
-apart_ends Orders Orders n m from to start end same e = same_ends n m from to start end (omega arith) e
-apart_ends Orders Shipments n m from to start end same e = absurd (omega arith)
-apart_ends Orders Receipts n m from to start end same e = absurd (omega arith)
-apart_ends Shipments Orders n m from to start end same e = absurd (omega arith)
-apart_ends Shipments Shipments n m from to start end same e = same_ends n m from to start end (omega arith) e
-apart_ends Shipments Receipts n m from to start end same e = absurd (omega arith)
-apart_ends Receipts Orders n m from to start end same e = absurd (omega arith)
-apart_ends Receipts Shipments n m from to start end same e = absurd (omega arith)
-apart_ends Receipts Receipts n m from to start end same e = same_ends n m from to start end (omega arith) e
+    shared : (p q : Bool) → p ≡ true → q ≡ true → not (p && q) ≡ true → ⊥
+    shared true true one other e = cc
+    shared true false one other e = cc
+    shared false q one other e = cc
 
 -- a span that begins in time stands before a new one that is apart from it
 pub begun_before : (x a : Span) → x.from ≤ x.to → are_apart x a ≡ true → Begins x.node x.what x.from a → IsBefore a x
 begun_before x a whole apart begins = record {
   order = begins.order;
-  ends = λ same. by_ends same (apart_ends x.what a.what x.node a.node x.from x.to a.from a.to (sym same) apart);
+  ends = λ same. by_ends same (cases_lt a.to x.from);
 }
   where
-    by_ends : group a.node a.what ≡ group x.node x.what → (x.to < a.from) ⊎ (a.to < x.from) → a.to < x.from
-    by_ends same (inl after) = absurd (omega (arith, begins.begins same))
-    by_ends same (inr before) = before
+    by_ends : group a.node a.what ≡ group x.node x.what → (a.to < x.from) ⊎ (x.from ≤ a.to) → a.to < x.from
+    by_ends same (inl before) = before
+    by_ends same (inr within) = absurd (apart_holds_not x a x.from apart (sym same) (omega arith) whole (begins.begins same) within)
 
 -- and one that follows it stands behind
 pub before_following : (x a : Span) → a.from ≤ a.to → are_apart x a ≡ true → Follows x.node x.what x.from a → IsBefore x a
 before_following x a whole apart follows = record {
   order = follows.order;
-  ends = λ same. by_ends same (apart_ends x.what a.what x.node a.node x.from x.to a.from a.to same apart);
+  ends = λ same. by_ends same (cases_lt x.to a.from);
 }
   where
-    by_ends : group x.node x.what ≡ group a.node a.what → (x.to < a.from) ⊎ (a.to < x.from) → x.to < a.from
+    by_ends : group x.node x.what ≡ group a.node a.what → (x.to < a.from) ⊎ (a.from ≤ x.to) → x.to < a.from
     by_ends same (inl after) = after
-    by_ends same (inr before) = absurd (omega (arith, follows.begins (sym same)))
+    by_ends same (inr within) = absurd (apart_holds_not x a a.from apart same (omega (arith, follows.begins (sym same))) within (omega arith) whole)
 
 all_cons : (P : Span → Type 0) (a : Span) (rest : List Span) → P a → All P rest → All P (a ∷ rest)
 all_cons P a rest here each zero d lt = here

@@ -6,6 +6,7 @@ ghost use Rattle.disruption.specs.Calendars.{PausesAlike, IsRefusal};
 
 use crate::table::{is_held, put};
 use decision_model::{Pause, Span, overlapping_span};
+use fraction128::Memory;
 use std::alloc::Global;
 use std::marker::Model;
 use thiserror::Error;
@@ -19,6 +20,16 @@ pub enum CalendarErr {
     /// There was no memory for the calendar.
     #[error("out of memory")]
     Memory,
+}
+
+impl From<Memory> for CalendarErr {
+    ghost use Rattle.disruption.specs.declared.calendar.CalendarErr.TheVariants.{Memory};
+
+    ghost from_gives = { λ _ e. e ≡ Memory };
+
+    fn from(_refused: Memory) -> CalendarErr {
+        CalendarErr::Memory
+    }
 }
 
 /// What is paused at which node in which period. Contracts see it as spans that say so.
@@ -54,10 +65,7 @@ impl Calendar {
         let mut table = Vec::new(alloc);
         for span in spans {
             if span.from <= span.to {
-                match put(&mut table, *span) {
-                    Ok(()) => {}
-                    Err(_) => return Err(CalendarErr::Memory),
-                }
+                put(&mut table, *span)?;
             }
         }
         Ok(Calendar { spans: table })

@@ -3,7 +3,5 @@
 
 mod calendar;
 mod table;
-#[cfg(test)]
-mod tests;
 
 pub use calendar::{Calendar, CalendarErr};

@@ -33,10 +33,8 @@ pub(crate) fn put(table: &mut Vec<Span>, span: Span) -> Result<(), Memory>
     ensures one_more { OnOk result (HasOneMore span table.old.items table.new.items) }
 {
     let place = count_begun(table, span.what, span.node, span.from);
-    match table.insert(place, span) {
-        Ok(()) => Ok(()),
-        Err(_) => Err(Memory),
-    }
+    table.insert(place, span)?;
+    Ok(())
 }
 
 // How many spans of a table are of an earlier node or kind, or of this one and begin at or before the period.

@@ -8,15 +8,8 @@ ghost use Rattle.value_cert.specs.FiniteValues.{end_value};
 ghost use Rattle.finite_recursion.specs.Rows.{value_at};
 
 use crate::row::position_at;
-use crate::scales::power;
-use decision_model::Finite;
-
-// A number, or 0 in place of one below 0.
-fn above_zero(number: i64) -> u64
-    ensures { result ≡ above_zero number }
-{
-    u64::try_from(number).unwrap_or(0)
-}
+use decision_model::{Finite, above_zero};
+use fraction128::power;
 
 // What a position costs after the last period.
 fn end_cost(finite: &Finite, at: i64) -> u128

@@ -4,7 +4,7 @@ ghost use Rattle.decision_model.specs.Finite.{IsValidFinite};
 ghost use Rattle.finite_recursion.specs.Rows.{AreScales};
 
 use decision_model::Finite;
-use fraction128::checked_pow;
+use fraction128::power;
 use value_cert::scale_of;
 
 // What the costs of stock are taken times, and what an order costs, in whole numbers over the period's scale.
@@ -16,14 +16,6 @@ pub(crate) struct Scales {
     pub(crate) setup: i128,
     // The cost of each unit.
     pub(crate) unit: i128,
-}
-
-// A power that is known to fit.
-pub(crate) fn power(base: u128, times: u32) -> u128
-    requires { base ^ times ≤ 2 ^ 120 }
-    ensures { result ≡ base ^ times }
-{
-    checked_pow(base, times).unwrap_or(0)
 }
 
 // A product of two factors that fits, as a signed number.

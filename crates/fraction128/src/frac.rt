@@ -74,9 +74,6 @@ impl Frac {
         } else {
             format!(in alloc; "{num}/{den}")
         };
-        match text {
-            Ok(text) => out.push(text.as_bytes()),
-            Err(_) => Err(Memory),
-        }
+        out.push(text?.as_bytes())
     }
 }

@@ -13,6 +13,14 @@ pub fn checked_pow(base: u128, times: u32) -> Option<u128>
     base.checked_pow(times)
 }
 
+/// `base` to the power of `times`, where that is known to fit.
+pub fn power(base: u128, times: u32) -> u128
+    requires { base ^ times < 2 ^ 128 }
+    ensures { result ≡ base ^ times }
+{
+    checked_pow(base, times).unwrap_or(0)
+}
+
 /// Whether the product of the factors, over whole numbers without limit, is at most 2^`bits`.
 ///
 /// An empty product is 1.

@@ -1,25 +1,14 @@
--- A discount, a policy and echelon stocks that were written are read back.
+-- A policy and echelon stocks that were written are read back.
 use Rattle.std.proofs.Common.{◌≡◌, ℕ, suc, ◌+◌, ◌-◌, ◌<◌, ℤ, pos, negsuc, ◌≤ℤ◌, List, [], ◌∷◌, length, get_or, All, Bool, true, false, Ok, refl, subst, arith}
 use Rattle.std.specs.Prelude.{int_le}
 use Rattle.std.specs.List.{list_all, AllAdjacentBelow}
 use Rattle.demand_law.specs.Integers.{le_trans}
 use Rattle.serde_json.specs.Data.{string}
-use Rattle.decision_model.specs.Rates.{IsDiscount}
 use Rattle.decision_model.specs.Positions.{IsPosition}
-use Rattle.instance_json.specs.declared.law_texts.NumberTest.TheVariants.{Whole}
-use Rattle.instance_json.specs.Fields.{discount_in, policy_in}
+use Rattle.instance_json.specs.Fields.{policy_in}
 use Rattle.instance_json.specs.Positions.{rises_from, is_start}
-use Rattle.instance_json.specs.WrittenValues.{pair_data}
 use Rattle.instance_json.specs.Average.{policy_text}
-use Rattle.instance_json.proofs.BackNumbers.{amount_back, int_le_is}
-use Rattle.instance_json.proofs.BackLaws.{is_tuple-pair}
-
-pub discount_back : (num den : ℕ) → IsDiscount num den → discount_in (pair_data num den) ≡ Ok (num, den)
-discount_back num den is =
-    let shape = is_tuple-pair Whole num den (omega (arith, is.proper, is.most)) (omega (arith, is.most)) in
-    let second = amount_back 1 1000 den (omega (arith, is.least, is.proper)) is.most in
-    let first = amount_back 1 den num is.least is.proper in
-    rw (shape, second, first) refl
+use Rattle.json_forms.proofs.BackNumbers.{int_le_is}
 
 pub policy_back : (lots : Bool) → policy_in (string (policy_text lots)) ≡ Ok lots
 policy_back true = refl

@@ -8,10 +8,11 @@ use Rattle.std.proofs.lemmas.Slice.Eq.{bytes_eq-Decides}
 use Rattle.serde_json.specs.Data.{string}
 use Rattle.decision_model.specs.declared.network.NodeSpec.{NodeSpec}
 use Rattle.decision_model.specs.Nodes.{is_node_name, node_at}
-use Rattle.instance_json.specs.declared.fault.FieldFault.TheVariants.{OutOfRange}
-use Rattle.instance_json.specs.Names.{Name, place_below, place_of, node_name_in, place_or_fault, node_in, supplier}
-use Rattle.instance_json.specs.Network.{name_text, name_data, name_at}
-use Rattle.instance_json.proofs.Texts.{outside_text, not_outside, name_text_is}
+use Rattle.json_forms.specs.declared.fault.FieldFault.TheVariants.{OutOfRange}
+use Rattle.json_forms.specs.NodeNames.{Name, node_name_in, name_text, name_data}
+use Rattle.instance_json.specs.Names.{place_below, place_of, place_or_fault, node_in, supplier}
+use Rattle.instance_json.specs.Network.{name_at}
+use Rattle.json_forms.proofs.Texts.{outside_text, not_outside, name_text_is}
 
 neither : (a b : Bool) → (a || b) ≡ false → (a ≡ false) × (b ≡ false)
 neither true b e = cc

@@ -4,7 +4,7 @@ use Rattle.std.specs.Prelude.{int_lt, is_some}
 use Rattle.std.specs.List.{list_all}
 use Rattle.serde_json.specs.Data.{Data, string, object}
 use Rattle.serde_json.specs.Find.{get}
-use Rattle.decision_model.specs.declared.limits.TheConstants.{MOST_RATE, MOST_INITIAL, MOST_TRACE, MOST_NETWORK_LEAD, MOST_SOURCES, MOST_LOT, MOST_HOUSE_INDEX, MOST_HOUSE_CAP}
+use Rattle.decision_model.specs.Limits.{most_rate, most_initial, most_trace, most_network_lead, most_sources, most_lot, most_house_index, most_house_cap}
 use Rattle.decision_model.specs.declared.network.NodeSpec.{NodeSpec}
 use Rattle.decision_model.specs.declared.network.Link.{Link}
 use Rattle.decision_model.specs.declared.network.Rule.{Rule}
@@ -17,25 +17,26 @@ use Rattle.decision_model.specs.declared.network.Pause.TheVariants.{Orders, Ship
 use Rattle.decision_model.specs.Positions.{IsPosition}
 use Rattle.decision_model.specs.Nodes.{node_at, IsReadableRule, IsReadableLink, IsReadableDemand, IsReadableNode}
 use Rattle.decision_model.specs.Pauses.{IsReadableSpan}
-use Rattle.instance_json.specs.declared.fault.FieldFault.{FieldFault}
-use Rattle.instance_json.specs.declared.fault.FieldFault.TheVariants.{WrongType, OutOfRange}
-use Rattle.instance_json.specs.Steps.{◌>>=◌, each}
-use Rattle.instance_json.specs.Numbers.{is_whole, amount_in, position_in, items_in, some_amounts_in, of_length_within}
-use Rattle.instance_json.specs.LawTexts.{law_in}
-use Rattle.instance_json.specs.Keys.{has_keys, required, optional}
-use Rattle.instance_json.specs.Items.{is_object, item_of}
-use Rattle.instance_json.specs.Names.{Name, name_under, names_in, node_name_in, node_in}
+use Rattle.json_forms.specs.declared.fault.FieldFault.{FieldFault}
+use Rattle.json_forms.specs.declared.fault.FieldFault.TheVariants.{WrongType, OutOfRange}
+use Rattle.json_forms.specs.Steps.{◌>>=◌, each}
+use Rattle.json_forms.specs.Numbers.{is_whole, amount_in, position_in, items_in, some_amounts_in, of_length_within}
+use Rattle.json_forms.specs.LawTexts.{law_in}
+use Rattle.json_forms.specs.Keys.{has_keys, required, optional}
+use Rattle.json_forms.specs.Items.{is_object, item_of}
+use Rattle.json_forms.specs.NodeNames.{Name, node_name_in, name_data}
+use Rattle.instance_json.specs.Names.{name_under, names_in, node_in}
 use Rattle.instance_json.specs.Sources.{is_source, amount_under, amount_or_zero, source_in, all_sources, sources_in}
 use Rattle.instance_json.specs.OrderRules.{rule_in}
 use Rattle.instance_json.specs.Nodes.{demand_in, node_keys, node_of}
 use Rattle.instance_json.specs.Pauses.{pause_in, span_keys, span_of}
-use Rattle.instance_json.specs.WrittenValues.{amount_data, position_data, amounts_data, list_data, law_data}
-use Rattle.instance_json.specs.Members.{listed}
-use Rattle.instance_json.specs.Network.{name_data, rule_data, link_data, trace_data, with_demand, node_members, node_data, pause_word, span_data}
-use Rattle.instance_json.proofs.BackNumbers.{test_is, is_whole-amount, is_whole-position, amount_back, position_back, items_in-list, list_all-written, each_back, of_length_back, some_amounts_back}
-use Rattle.instance_json.proofs.BackLaws.{law_back}
-use Rattle.instance_json.proofs.BackKeys.{given_absent, required_back, optional_back, required_amount, optional_amount}
-use Rattle.instance_json.proofs.Texts.{name_text_is}
+use Rattle.json_forms.specs.WrittenValues.{amount_data, position_data, amounts_data, list_data, law_data}
+use Rattle.json_forms.specs.Members.{listed}
+use Rattle.instance_json.specs.Network.{rule_data, link_data, trace_data, with_demand, node_members, node_data, pause_word, span_data}
+use Rattle.json_forms.proofs.BackNumbers.{test_is, is_whole-amount, is_whole-position, amount_back, position_back, items_in-list, list_all-written, each_back, of_length_back, some_amounts_back}
+use Rattle.json_forms.proofs.BackLaws.{law_back}
+use Rattle.json_forms.proofs.BackKeys.{given_absent, required_back, optional_back, required_amount, optional_amount}
+use Rattle.json_forms.proofs.Texts.{name_text_is}
 use Rattle.instance_json.proofs.BackNames.{names_of, AreNamed, IsPlaceOf, node_name_back, node_back, supplier_back}
 
 -- ---- sources
@@ -50,17 +51,17 @@ link_back : (nodes : List NodeSpec) → AreNamed nodes → (link : Link) → IsL
 unfolding link_data
 link_back nodes are link is =
     let from = supplier_back nodes link.from are is.1 in
-    let lead = amount_back 0 MOST_NETWORK_LEAD link.lead (omega arith) is.0.lead in
-    let order_lead = amount_back 0 MOST_NETWORK_LEAD link.order_lead (omega arith) is.0.order_lead in
+    let lead = amount_back 0 most_network_lead link.lead (omega arith) is.0.lead in
+    let order_lead = amount_back 0 most_network_lead link.order_lead (omega arith) is.0.order_lead in
     rw (from, lead, order_lead) refl
 
-pub sources_back : (nodes : List NodeSpec) → AreNamed nodes → (links : List Link) → All (IsLinkOf nodes) links → 1 ≤ length links → length links ≤ MOST_SOURCES → sources_in (names_of nodes) (list_data (map (link_data nodes) links)) ≡ Ok links
+pub sources_back : (nodes : List NodeSpec) → AreNamed nodes → (links : List Link) → All (IsLinkOf nodes) links → 1 ≤ length links → length links ≤ most_sources → sources_in (names_of nodes) (list_data (map (link_data nodes) links)) ≡ Ok links
 sources_back nodes are links all some few =
     let ds = map (link_data nodes) links in
-    ap (λ (o : Option (List Data)). all_sources o >>= λ shaped. each (source_in (names_of nodes)) shaped >>= of_length_within 1 MOST_SOURCES) (items_in-list ds)
-    ∙ ap (λ (b : Bool). cond b (Ok ds) (Err WrongType) >>= λ shaped. each (source_in (names_of nodes)) shaped >>= of_length_within 1 MOST_SOURCES) (list_all-written is_source (link_data nodes) links (link_shaped nodes))
-    ∙ ap (λ (r : Result (List Link) FieldFault). r >>= of_length_within 1 MOST_SOURCES) (each_back (IsLinkOf nodes) (source_in (names_of nodes)) (link_data nodes) links (link_back nodes are) all)
-    ∙ of_length_back 1 MOST_SOURCES links some few
+    ap (λ (o : Option (List Data)). all_sources o >>= λ shaped. each (source_in (names_of nodes)) shaped >>= of_length_within 1 most_sources) (items_in-list ds)
+    ∙ ap (λ (b : Bool). cond b (Ok ds) (Err WrongType) >>= λ shaped. each (source_in (names_of nodes)) shaped >>= of_length_within 1 most_sources) (list_all-written is_source (link_data nodes) links (link_shaped nodes))
+    ∙ ap (λ (r : Result (List Link) FieldFault). r >>= of_length_within 1 most_sources) (each_back (IsLinkOf nodes) (source_in (names_of nodes)) (link_data nodes) links (link_back nodes are) all)
+    ∙ of_length_back 1 most_sources links some few
 
 -- ---- rules
 at_position : (z : ℤ) → IsPosition z → position_in (position_data z) ≡ Ok z
@@ -73,14 +74,14 @@ pub rule_back : (rule : Rule) → IsReadableRule rule → rule_in (rule_data rul
 unfolding rule_data
 rule_back (Base level) is = rw (at_position level is, is_whole-position level) refl
 rule_back (MinMax low high) is = rw (at_position low is.0, at_position high is.1, is_whole-position low, is_whole-position high, int_lt_is low high is.2) refl
-rule_back (Lot reorder lot) is = rw (at_position reorder is.0, amount_back 1 MOST_LOT lot is.1 is.2, is_whole-position reorder, is_whole-amount lot) refl
+rule_back (Lot reorder lot) is = rw (at_position reorder is.0, amount_back 1 most_lot lot is.1 is.2, is_whole-position reorder, is_whole-amount lot) refl
 rule_back (Echelon level) is = rw (at_position level is, is_whole-position level) refl
-rule_back (House index cap) is = rw (amount_back 0 MOST_HOUSE_INDEX index (omega arith) is.0, amount_back 0 MOST_HOUSE_CAP cap (omega arith) is.1, is_whole-amount index, is_whole-amount cap) refl
+rule_back (House index cap) is = rw (amount_back 0 most_house_index index (omega arith) is.0, amount_back 0 most_house_cap cap (omega arith) is.1, is_whole-amount index, is_whole-amount cap) refl
 
 -- ---- demand
 trace_back : (periods : ℕ) (demands : List ℕ) → IsReadableDemand periods (Trace demands) → demand_in periods (trace_data demands) ≡ Ok (Trace demands)
 unfolding trace_data
-trace_back periods demands is = ap (λ (r : Result (List ℕ) FieldFault). r >>= λ ds. Ok (Trace ds)) (some_amounts_back MOST_TRACE periods periods demands is.1 (omega (arith, is.0)) (omega (arith, is.0)))
+trace_back periods demands is = ap (λ (r : Result (List ℕ) FieldFault). r >>= λ ds. Ok (Trace ds)) (some_amounts_back most_trace periods periods demands is.1 (omega (arith, is.0)) (omega (arith, is.0)))
 
 drawn_read : (periods : ℕ) (law : List ℕ) → demand_in periods (law_data law) ≡ (law_in (law_data law) >>= λ l. Ok (Drawn l))
 unfolding law_data
@@ -132,9 +133,9 @@ values nodes periods are node is =
     let d = node_written nodes node node.demand in
     let here = under_node nodes node node.demand in
     let name = required_back node_name_in (codes "name") d (name_data node.name) node.name here.name (node_name_back node.name is.0.name) in
-    let initial = required_amount 0 MOST_INITIAL (codes "initial") d node.initial here.initial (omega arith) is.0.initial in
-    let holding = required_amount 0 MOST_RATE (codes "holding") d node.holding here.holding (omega arith) is.0.holding in
-    let stockout = optional_amount MOST_RATE (codes "stockout") d node.stockout here.stockout is.0.stockout in
+    let initial = required_amount 0 most_initial (codes "initial") d node.initial here.initial (omega arith) is.0.initial in
+    let holding = required_amount 0 most_rate (codes "holding") d node.holding here.holding (omega arith) is.0.holding in
+    let stockout = optional_amount most_rate (codes "stockout") d node.stockout here.stockout is.0.stockout in
     let rule = required_back rule_in (codes "rule") d (rule_data node.rule) node.rule here.rule (rule_back node.rule is.0.rule) in
     let sources = required_back (sources_in (names_of nodes)) (codes "sources") d (list_data (map (link_data nodes) node.sources)) node.sources here.sources (sources_back nodes are node.sources is.1 is.0.some_sources is.0.few_sources) in
     let demand = demand_back periods nodes node node.demand is.0.demand in

@@ -4,10 +4,10 @@ use Rattle.decision_model.specs.declared.instance.Instance.{Instance}
 use Rattle.decision_model.specs.Kind.{kind_of}
 use Rattle.decision_model.specs.Valid.{IsReadable, GridFits, grid_fits, IsRegular, WidthFits, width_fits, IsValid}
 use Rattle.instance_json.specs.KindText.{TextOf, read_by}
-use Rattle.instance_json.specs.Keys.{has_keys}
+use Rattle.json_forms.specs.Keys.{has_keys}
 use Rattle.instance_json.specs.Kinds.{read_as, of_kind, text_of}
 use Rattle.instance_json.specs.Reads.{kind_in}
-use Rattle.instance_json.proofs.Plain.{IsPlain}
+use Rattle.json_forms.proofs.Plain.{IsPlain}
 
 pub record Proven (instance : Instance) : Type 0 where
   -- what is written says its kind, and has no float and at most six levels

@@ -8,20 +8,20 @@ use Rattle.decision_model.specs.declared.average.Average as average
 use Rattle.decision_model.specs.declared.instance.Instance.TheVariants.{Average}
 use Rattle.decision_model.specs.declared.kinds.Kind.TheVariants as kind
 use Rattle.decision_model.specs.Kind.{kind_word}
-use Rattle.decision_model.specs.declared.limits.TheConstants.{MOST_RATE, MOST_SETUP, MOST_LEAD}
+use Rattle.decision_model.specs.Limits.{most_rate, most_setup, most_lead}
 use Rattle.decision_model.specs.Average.{IsUnitDemand, is_unit_demand, IsReadableAverage, IsValidAverage}
-use Rattle.instance_json.specs.Numbers.{position_in}
-use Rattle.instance_json.specs.LawTexts.{law_in}
+use Rattle.json_forms.specs.Numbers.{position_in}
+use Rattle.json_forms.specs.LawTexts.{law_in}
 use Rattle.instance_json.specs.Fields.{policy_in}
-use Rattle.instance_json.specs.Keys.{has_keys}
-use Rattle.instance_json.specs.WrittenValues.{amount_data, position_data, law_data}
+use Rattle.json_forms.specs.Keys.{has_keys}
+use Rattle.json_forms.specs.WrittenValues.{amount_data, position_data, law_data}
 use Rattle.instance_json.specs.Average.{average_keys, average_of, lots_fit, average_broken, policy_text, average_members, average_data, average_text}
 use Rattle.instance_json.specs.Reads.{kind_in}
-use Rattle.instance_json.proofs.BackNumbers.{position_back, int_le_is}
-use Rattle.instance_json.proofs.BackLaws.{law_back}
+use Rattle.json_forms.proofs.BackNumbers.{position_back, int_le_is}
+use Rattle.json_forms.proofs.BackLaws.{law_back}
 use Rattle.instance_json.proofs.BackFields.{policy_back}
-use Rattle.instance_json.proofs.BackKeys.{required_back, optional_back, required_amount, optional_amount, in_range_back}
-use Rattle.instance_json.proofs.Plain.{IsPlain, one_deeper, object_plain, amount_plain, position_plain, text_plain, one_law_plain}
+use Rattle.json_forms.proofs.BackKeys.{required_back, optional_back, required_amount, optional_amount, in_range_back}
+use Rattle.json_forms.proofs.Plain.{IsPlain, one_deeper, object_plain, amount_plain, position_plain, text_plain, one_law_plain}
 use Rattle.instance_json.proofs.Proven.{Proven, again}
 
 abbrev Instance : Type 0
@@ -51,10 +51,10 @@ unfolding average_of
 values it is =
     let d = average_data it in
     let here = under it in
-    let lead = optional_amount MOST_LEAD (codes "lead") d it.lead here.lead is.lead in
-    let setup = optional_amount MOST_SETUP (codes "setup") d it.setup here.setup is.setup in
-    let holding = required_amount 0 MOST_RATE (codes "holding") d it.holding here.holding (omega arith) is.holding in
-    let stockout = required_amount 0 MOST_RATE (codes "stockout") d it.stockout here.stockout (omega arith) is.stockout in
+    let lead = optional_amount most_lead (codes "lead") d it.lead here.lead is.lead in
+    let setup = optional_amount most_setup (codes "setup") d it.setup here.setup is.setup in
+    let holding = required_amount 0 most_rate (codes "holding") d it.holding here.holding (omega arith) is.holding in
+    let stockout = required_amount 0 most_rate (codes "stockout") d it.stockout here.stockout (omega arith) is.stockout in
     let law = required_back law_in (codes "demand") d (law_data it.law) it.law here.demand (law_back it.law is.law) in
     let floor = required_back position_in (codes "floor") d (position_data it.floor) it.floor here.floor (position_back it.floor is.floor.least is.floor.most) in
     let cap = required_back position_in (codes "cap") d (position_data it.cap) it.cap here.cap (position_back it.cap is.cap.least is.cap.most) in

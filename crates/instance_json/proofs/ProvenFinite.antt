@@ -7,22 +7,22 @@ use Rattle.decision_model.specs.declared.finite.Finite as finite
 use Rattle.decision_model.specs.declared.instance.Instance.TheVariants.{Finite}
 use Rattle.decision_model.specs.declared.kinds.Kind.TheVariants as kind
 use Rattle.decision_model.specs.Kind.{kind_word}
-use Rattle.decision_model.specs.declared.limits.TheConstants.{MOST_RATE, MOST_SETUP, MOST_PERIODS, MOST_LEAD, MOST_ORDER, MOST_TOTAL}
+use Rattle.decision_model.specs.Limits.{most_rate, most_setup, most_periods, most_lead, most_order, most_total}
 use Rattle.decision_model.specs.Finite.{IsReadableFinite, IsMostOrder}
-use Rattle.instance_json.specs.Numbers.{amount_in, position_in, cap_in}
-use Rattle.instance_json.specs.LawTexts.{laws_in}
-use Rattle.instance_json.specs.Fields.{discount_in}
-use Rattle.instance_json.specs.Keys.{given, has_keys}
-use Rattle.instance_json.specs.WrittenValues.{amount_data, position_data, pair_data, laws_data}
-use Rattle.instance_json.specs.Members.{Named, listed, put_all}
+use Rattle.json_forms.specs.Numbers.{amount_in, position_in, cap_in}
+use Rattle.json_forms.specs.LawTexts.{laws_in}
+use Rattle.json_forms.specs.Discounts.{discount_in}
+use Rattle.json_forms.specs.Keys.{given, has_keys}
+use Rattle.json_forms.specs.WrittenValues.{amount_data, position_data, pair_data, laws_data}
+use Rattle.json_forms.specs.Members.{Named, listed, put_all}
 use Rattle.instance_json.specs.declared.finite.FiniteCosts.{FiniteCosts}
 use Rattle.instance_json.specs.Finite.{finite_keys, finite_costs_of, finite_of, with_most, finite_to_lead, finite_from_periods, finite_members, finite_data, finite_text}
 use Rattle.instance_json.specs.Reads.{kind_in}
-use Rattle.instance_json.proofs.BackNumbers.{amount_back, position_back, cap_back, int_le_is}
-use Rattle.instance_json.proofs.BackLaws.{laws_back}
-use Rattle.instance_json.proofs.BackFields.{discount_back}
-use Rattle.instance_json.proofs.BackKeys.{given_back, given_absent, required_back, optional_back, required_amount, optional_amount, in_range_back}
-use Rattle.instance_json.proofs.Plain.{IsPlain, ArePlain, one_deeper, object_plain, amount_plain, position_plain, text_plain, pair_plain, laws_plain}
+use Rattle.json_forms.proofs.BackNumbers.{amount_back, position_back, cap_back, int_le_is}
+use Rattle.json_forms.proofs.BackLaws.{laws_back}
+use Rattle.json_forms.proofs.BackDiscount.{discount_back}
+use Rattle.json_forms.proofs.BackKeys.{given_back, given_absent, required_back, optional_back, required_amount, optional_amount, in_range_back}
+use Rattle.json_forms.proofs.Plain.{IsPlain, ArePlain, one_deeper, object_plain, amount_plain, position_plain, text_plain, pair_plain, laws_plain}
 use Rattle.instance_json.proofs.Proven.{Proven, again}
 use Rattle.std.proofs.Common.{List}
 
@@ -58,11 +58,11 @@ under : (it : Instance) → Under it (finite_data it)
 unfolding finite_data
 under it = under_with it it.most
 
-most_in : (it : Instance) (most : Option ℕ) → IfSome most IsMostOrder → given (amount_in 1 MOST_ORDER) (codes "most") (written it most) ≡ Ok most
+most_in : (it : Instance) (most : Option ℕ) → IfSome most IsMostOrder → given (amount_in 1 most_order) (codes "most") (written it most) ≡ Ok most
 most_in it None is = refl
-most_in it (Some order) is = given_back (amount_in 1 MOST_ORDER) (codes "most") (written it (Some order)) (amount_data order) order refl (amount_back 1 MOST_ORDER order is.least is.most)
+most_in it (Some order) is = given_back (amount_in 1 most_order) (codes "most") (written it (Some order)) (amount_data order) order refl (amount_back 1 most_order order is.least is.most)
 
-most_back : (it : Instance) → IfSome it.most IsMostOrder → given (amount_in 1 MOST_ORDER) (codes "most") (finite_data it) ≡ Ok it.most
+most_back : (it : Instance) → IfSome it.most IsMostOrder → given (amount_in 1 most_order) (codes "most") (finite_data it) ≡ Ok it.most
 unfolding finite_data
 most_back it is = most_in it it.most is
 
@@ -74,12 +74,12 @@ unfolding finite_costs_of
 costs_back it is =
     let d = finite_data it in
     let here = under it in
-    let setup = optional_amount MOST_SETUP (codes "setup") d it.setup here.setup is.setup in
-    let unit = optional_amount MOST_RATE (codes "unit") d it.unit here.unit is.unit in
-    let holding = required_amount 0 MOST_RATE (codes "holding") d it.holding here.holding (omega arith) is.holding in
-    let stockout = required_amount 0 MOST_RATE (codes "stockout") d it.stockout here.stockout (omega arith) is.stockout in
-    let end_holding = optional_amount MOST_RATE (codes "end_holding") d it.end_holding here.end_holding is.end_holding in
-    let end_stockout = optional_amount MOST_RATE (codes "end_stockout") d it.end_stockout here.end_stockout is.end_stockout in
+    let setup = optional_amount most_setup (codes "setup") d it.setup here.setup is.setup in
+    let unit = optional_amount most_rate (codes "unit") d it.unit here.unit is.unit in
+    let holding = required_amount 0 most_rate (codes "holding") d it.holding here.holding (omega arith) is.holding in
+    let stockout = required_amount 0 most_rate (codes "stockout") d it.stockout here.stockout (omega arith) is.stockout in
+    let end_holding = optional_amount most_rate (codes "end_holding") d it.end_holding here.end_holding is.end_holding in
+    let end_stockout = optional_amount most_rate (codes "end_stockout") d it.end_stockout here.end_stockout is.end_stockout in
     rw (setup, unit, holding, stockout, end_holding, end_stockout) refl
 
 values : (it : Instance) → IsReadableFinite it → finite_of (finite_data it) ≡ Ok it
@@ -87,10 +87,10 @@ unfolding finite_of
 values it is =
     let d = finite_data it in
     let here = under it in
-    let periods = required_amount 1 MOST_PERIODS (codes "periods") d it.periods here.periods is.periods.least is.periods.most in
-    let lead = optional_amount MOST_LEAD (codes "lead") d it.lead here.lead is.lead in
+    let periods = required_amount 1 most_periods (codes "periods") d it.periods here.periods is.periods.least is.periods.most in
+    let lead = optional_amount most_lead (codes "lead") d it.lead here.lead is.lead in
     let discount = optional_back discount_in (1, 1) (codes "discount") d (pair_data it.discount_num it.discount_den) (it.discount_num, it.discount_den) here.discount (discount_back it.discount_num it.discount_den is.discount) in
-    let total = given_absent (amount_in 1 MOST_TOTAL) (codes "total") d here.total in
+    let total = given_absent (amount_in 1 most_total) (codes "total") d here.total in
     let laws = required_back (laws_in (it.periods + it.lead) None) (codes "demand") d (laws_data it.laws) it.laws here.demand (laws_back (it.periods + it.lead) it.laws is.laws) in
     let cap = required_back cap_in (codes "cap") d (position_data it.cap) it.cap here.cap (cap_back it.cap is.cap) in
     let start = required_back position_in (codes "start") d (position_data it.start) it.start here.start (position_back it.start is.start.least is.start.most) in

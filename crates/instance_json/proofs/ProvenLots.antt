@@ -6,16 +6,16 @@ use Rattle.decision_model.specs.declared.lots.LotSize.{LotSize}
 use Rattle.decision_model.specs.declared.instance.Instance.TheVariants.{Lots}
 use Rattle.decision_model.specs.declared.kinds.Kind.TheVariants as kind
 use Rattle.decision_model.specs.Kind.{kind_word}
-use Rattle.decision_model.specs.declared.limits.TheConstants.{MOST_RATE, MOST_LOT_PERIODS, MOST_LOT_DEMAND, MOST_LOT_SETUP}
+use Rattle.decision_model.specs.Limits.{most_rate, most_lot_periods, most_lot_demand, most_lot_setup}
 use Rattle.decision_model.specs.Lots.{is_speculative, speculative_period_of, HasNoSpeculation, IsReadableLots}
-use Rattle.instance_json.specs.Numbers.{some_amounts_in, rates_in}
-use Rattle.instance_json.specs.Keys.{has_keys}
-use Rattle.instance_json.specs.WrittenValues.{amounts_data}
+use Rattle.json_forms.specs.Numbers.{some_amounts_in, rates_in}
+use Rattle.json_forms.specs.Keys.{has_keys}
+use Rattle.json_forms.specs.WrittenValues.{amounts_data}
 use Rattle.instance_json.specs.Lots.{lots_keys, lots_of, lots_members, lots_data, lots_text}
 use Rattle.instance_json.specs.Reads.{kind_in}
-use Rattle.instance_json.proofs.BackNumbers.{some_amounts_back, rates_back}
-use Rattle.instance_json.proofs.BackKeys.{required_back, optional_back}
-use Rattle.instance_json.proofs.Plain.{IsPlain, one_deeper, object_plain, amounts_plain, text_plain}
+use Rattle.json_forms.proofs.BackNumbers.{some_amounts_back, rates_back}
+use Rattle.json_forms.proofs.BackKeys.{required_back, optional_back}
+use Rattle.json_forms.proofs.Plain.{IsPlain, one_deeper, object_plain, amounts_plain, text_plain}
 use Rattle.instance_json.proofs.Proven.{Proven, again}
 
 -- what stands under each key
@@ -39,10 +39,10 @@ values lots is =
     let d = lots_data lots in
     let here = under lots in
     let periods = length lots.demand in
-    let demand = required_back (some_amounts_in MOST_LOT_DEMAND 1 MOST_LOT_PERIODS) (codes "demand") d (amounts_data lots.demand) lots.demand here.demand (some_amounts_back MOST_LOT_DEMAND 1 MOST_LOT_PERIODS lots.demand is.demand is.some_period is.most_periods) in
-    let setup = required_back (rates_in MOST_LOT_SETUP periods) (codes "setup") d (amounts_data lots.setup) lots.setup here.setup (rates_back MOST_LOT_SETUP periods lots.setup is.setup is.setup_each) in
-    let holding = required_back (rates_in MOST_RATE periods) (codes "holding") d (amounts_data lots.holding) lots.holding here.holding (rates_back MOST_RATE periods lots.holding is.holding is.holding_each) in
-    let unit = optional_back (rates_in MOST_RATE periods) (replicate periods 0) (codes "unit") d (amounts_data lots.unit) lots.unit here.unit (rates_back MOST_RATE periods lots.unit is.unit is.unit_each) in
+    let demand = required_back (some_amounts_in most_lot_demand 1 most_lot_periods) (codes "demand") d (amounts_data lots.demand) lots.demand here.demand (some_amounts_back most_lot_demand 1 most_lot_periods lots.demand is.demand is.some_period is.most_periods) in
+    let setup = required_back (rates_in most_lot_setup periods) (codes "setup") d (amounts_data lots.setup) lots.setup here.setup (rates_back most_lot_setup periods lots.setup is.setup is.setup_each) in
+    let holding = required_back (rates_in most_rate periods) (codes "holding") d (amounts_data lots.holding) lots.holding here.holding (rates_back most_rate periods lots.holding is.holding is.holding_each) in
+    let unit = optional_back (rates_in most_rate periods) (replicate periods 0) (codes "unit") d (amounts_data lots.unit) lots.unit here.unit (rates_back most_rate periods lots.unit is.unit is.unit_each) in
     rw (demand, setup, holding, unit) refl
 
 find-none : (p : ℕ → Bool) (from n : ℕ) → ((t : ℕ) → from ≤ t → t < from + n → p t ≡ false) → find p (range_with_len from n) ≡ None

@@ -18,31 +18,32 @@ use Rattle.decision_model.specs.declared.network.Span.{Span}
 use Rattle.decision_model.specs.declared.instance.Instance.TheVariants.{Network}
 use Rattle.decision_model.specs.declared.kinds.Kind.TheVariants as kind
 use Rattle.decision_model.specs.Kind.{kind_word}
-use Rattle.decision_model.specs.declared.limits.TheConstants.{MOST_NETWORK_PERIODS, MOST_NODES, MOST_PAUSES}
+use Rattle.decision_model.specs.Limits.{most_network_periods, most_nodes, most_pauses}
 use Rattle.decision_model.specs.Nodes.{node_at, no_node, IsReadableNode}
 use Rattle.decision_model.specs.Shape.{is_later, misshapen_node}
 use Rattle.decision_model.specs.Pauses.{IsReadableSpan}
 use Rattle.decision_model.specs.Network.{IsReadableNetwork, IsValidNetwork}
 use Rattle.decision_model.specs.NetworkFacts.{IsShapedNode, shaped_at, parts_shaped}
-use Rattle.instance_json.specs.declared.law_texts.TheConstants.{MOST_WORD}
-use Rattle.instance_json.specs.declared.fault.KeyList.TheVariants.{Nodes, Pauses}
-use Rattle.instance_json.specs.Numbers.{amount_in}
-use Rattle.instance_json.specs.Keys.{given, has_keys, required, optional}
-use Rattle.instance_json.specs.Items.{objects_in, item_of, items_from}
+use Rattle.decision_model.specs.Limits.{most_word}
+use Rattle.json_forms.specs.declared.fault.KeyList.TheVariants.{Nodes, Pauses}
+use Rattle.json_forms.specs.Numbers.{amount_in}
+use Rattle.json_forms.specs.Keys.{given, has_keys, required, optional}
+use Rattle.json_forms.specs.Items.{objects_in, item_of, items_from}
 use Rattle.instance_json.specs.Names.{names_in}
 use Rattle.instance_json.specs.Nodes.{node_keys, node_of}
 use Rattle.instance_json.specs.Pauses.{span_keys, span_of}
-use Rattle.instance_json.specs.WrittenValues.{amount_data, amounts_data, list_data, law_data}
-use Rattle.instance_json.specs.Members.{Named, listed, put_all}
-use Rattle.instance_json.specs.Network.{network_keys, network_of, network_broken, name_text, name_at, rule_members, rule_data, link_members, link_data, trace_members, trace_data, with_demand, node_members, node_data, pause_word, span_members, span_data, seed_members, network_to_periods, network_data, network_text}
+use Rattle.json_forms.specs.WrittenValues.{amount_data, amounts_data, list_data, law_data}
+use Rattle.json_forms.specs.Members.{Named, listed, put_all}
+use Rattle.instance_json.specs.Network.{network_keys, network_of, network_broken, name_at, rule_members, rule_data, link_members, link_data, trace_members, trace_data, with_demand, node_members, node_data, pause_word, span_members, span_data, seed_members, network_to_periods, network_data, network_text}
+use Rattle.json_forms.specs.NodeNames.{name_text}
 use Rattle.instance_json.specs.Reads.{kind_in}
-use Rattle.instance_json.proofs.BackNumbers.{amount_back}
-use Rattle.instance_json.proofs.BackKeys.{given_back, required_back, optional_back, required_amount}
-use Rattle.instance_json.proofs.Texts.{both, is_false}
+use Rattle.json_forms.proofs.BackNumbers.{amount_back}
+use Rattle.json_forms.proofs.BackKeys.{given_back, required_back, optional_back, required_amount}
+use Rattle.json_forms.proofs.Texts.{both, is_false}
 use Rattle.instance_json.proofs.BackNames.{names_of, AreNamed, IsPlaceOf, none_before}
-use Rattle.instance_json.proofs.BackItems.{objects_back, items_back}
+use Rattle.json_forms.proofs.BackItems.{objects_back, items_back}
 use Rattle.instance_json.proofs.BackNodes.{IsLinkOf, IsNodeOf, node_object, node_name, node_item_back, span_object, span_item_back}
-use Rattle.instance_json.proofs.Plain.{IsPlain, ArePlain, deeper, object_plain, list_plain, amount_plain, amounts_plain, position_plain, text_plain, law_plain}
+use Rattle.json_forms.proofs.Plain.{IsPlain, ArePlain, deeper, object_plain, list_plain, amount_plain, amounts_plain, position_plain, text_plain, law_plain}
 use Rattle.instance_json.proofs.Proven.{Proven, again}
 
 abbrev Instance : Type 0
@@ -101,13 +102,13 @@ unfolding network_data
 under it = under_with it it.seed
 
 abbrev IsWord : Option ℕ → Type 0
-IsWord seed = IfSome seed (λ n. n ≤ MOST_WORD)
+IsWord seed = IfSome seed (λ n. n ≤ most_word)
 
-seed_in : (it : Instance) (seed : Option ℕ) → IsWord seed → given (amount_in 0 MOST_WORD) (codes "seed") (written it seed) ≡ Ok seed
+seed_in : (it : Instance) (seed : Option ℕ) → IsWord seed → given (amount_in 0 most_word) (codes "seed") (written it seed) ≡ Ok seed
 seed_in it None is = refl
-seed_in it (Some seed) is = given_back (amount_in 0 MOST_WORD) (codes "seed") (written it (Some seed)) (amount_data seed) seed refl (amount_back 0 MOST_WORD seed (omega arith) is)
+seed_in it (Some seed) is = given_back (amount_in 0 most_word) (codes "seed") (written it (Some seed)) (amount_data seed) seed refl (amount_back 0 most_word seed (omega arith) is)
 
-seed_back : (it : Instance) → IsWord it.seed → given (amount_in 0 MOST_WORD) (codes "seed") (network_data it) ≡ Ok it.seed
+seed_back : (it : Instance) → IsWord it.seed → given (amount_in 0 most_word) (codes "seed") (network_data it) ≡ Ok it.seed
 unfolding network_data
 seed_back it is = seed_in it it.seed is
 
@@ -120,11 +121,11 @@ values it word valid =
     let are = named it valid in
     let node_items = map (node_data it.nodes) it.nodes in
     let pause_items = map (span_data it.nodes) it.pauses in
-    let periods = required_amount 1 MOST_NETWORK_PERIODS (codes "periods") d it.periods here.periods is.some_periods is.few_periods in
-    let nodes_there = required_back (objects_in 1 MOST_NODES) (codes "nodes") d (list_data node_items) node_items here.nodes (objects_back 1 MOST_NODES (node_data it.nodes) it.nodes (node_object it.nodes) is.some_nodes is.few_nodes) in
+    let periods = required_amount 1 most_network_periods (codes "periods") d it.periods here.periods is.some_periods is.few_periods in
+    let nodes_there = required_back (objects_in 1 most_nodes) (codes "nodes") d (list_data node_items) node_items here.nodes (objects_back 1 most_nodes (node_data it.nodes) it.nodes (node_object it.nodes) is.some_nodes is.few_nodes) in
     let names = names_back it.nodes it.nodes it.periods is.nodes in
     let nodes = items_back (IsNodeOf it.nodes it.periods) Nodes 1 (item_of node_keys (node_of it.periods (names_of it.nodes))) (node_data it.nodes) it.nodes (node_item_back it.nodes it.periods are) (nodes_of_it it valid) in
-    let pauses_there = optional_back (objects_in 0 MOST_PAUSES) [] (codes "pauses") d (list_data pause_items) pause_items here.pauses (objects_back 0 MOST_PAUSES (span_data it.nodes) it.pauses (span_object it.nodes) (omega arith) is.few_pauses) in
+    let pauses_there = optional_back (objects_in 0 most_pauses) [] (codes "pauses") d (list_data pause_items) pause_items here.pauses (objects_back 0 most_pauses (span_data it.nodes) it.pauses (span_object it.nodes) (omega arith) is.few_pauses) in
     let pauses = items_back (IsReadableSpan it.periods (length it.nodes)) Pauses 1 (item_of span_keys (span_of it.periods (names_of it.nodes))) (span_data it.nodes) it.pauses (span_item_back it.nodes it.periods are) is.pauses in
     rw (periods, seed_back it word, nodes_there, names, nodes, pauses_there, pauses) refl
 

@@ -4,16 +4,16 @@ use Rattle.std.specs.Prelude.{nat_lt}
 use Rattle.serde_json.specs.Find.{get}
 use Rattle.newsvendor.specs.Item.{NewsvendorItem, IsNewsvendor}
 use Rattle.decision_model.specs.declared.instance.Instance.TheVariants.{News}
-use Rattle.decision_model.specs.declared.limits.TheConstants.{MOST_RATE}
+use Rattle.decision_model.specs.Limits.{most_rate}
 use Rattle.decision_model.specs.DemandLaws.{IsDemandLaw}
-use Rattle.instance_json.specs.LawTexts.{law_in}
-use Rattle.instance_json.specs.Keys.{has_keys}
-use Rattle.instance_json.specs.WrittenValues.{amount_data, law_data}
+use Rattle.json_forms.specs.LawTexts.{law_in}
+use Rattle.json_forms.specs.Keys.{has_keys}
+use Rattle.json_forms.specs.WrittenValues.{amount_data, law_data}
 use Rattle.instance_json.specs.News.{news_keys, news_of, news_members, news_data, news_text}
 use Rattle.instance_json.specs.Reads.{kind_in}
-use Rattle.instance_json.proofs.BackLaws.{law_back}
-use Rattle.instance_json.proofs.BackKeys.{required_back, required_amount, in_range_back}
-use Rattle.instance_json.proofs.Plain.{IsPlain, one_deeper, object_plain, amount_plain, text_plain, one_law_plain}
+use Rattle.json_forms.proofs.BackLaws.{law_back}
+use Rattle.json_forms.proofs.BackKeys.{required_back, required_amount, in_range_back}
+use Rattle.json_forms.proofs.Plain.{IsPlain, one_deeper, object_plain, amount_plain, text_plain, one_law_plain}
 use Rattle.instance_json.proofs.Proven.{Proven, again}
 use Rattle.decision_model.specs.declared.kinds.Kind.TheVariants as kind
 use Rattle.decision_model.specs.Kind.{kind_word}
@@ -45,8 +45,8 @@ unfolding news_of
 values news is =
     let d = news_data news in
     let here = under news in
-    let holding = required_amount 0 MOST_RATE (codes "holding") d news.holding here.holding (omega arith) is.holding_in_range in
-    let stockout = required_amount 0 MOST_RATE (codes "stockout") d news.stockout here.stockout (omega arith) is.stockout_in_range in
+    let holding = required_amount 0 most_rate (codes "holding") d news.holding here.holding (omega arith) is.holding_in_range in
+    let stockout = required_amount 0 most_rate (codes "stockout") d news.stockout here.stockout (omega arith) is.stockout_in_range in
     let some_rate = in_range_back (codes "stockout") (nat_lt 0 (news.holding + news.stockout)) (lt-ltb 0 (news.holding + news.stockout) is.some_rate) in
     let law = required_back law_in (codes "demand") d (law_data news.law) news.law here.demand (law_back news.law (law_in_range news is)) in
     rw (holding, stockout, some_rate, law) refl

@@ -5,21 +5,22 @@ use Rattle.decision_model.specs.declared.serial.Serial as serial
 use Rattle.decision_model.specs.declared.instance.Instance.TheVariants.{Serial}
 use Rattle.decision_model.specs.declared.kinds.Kind.TheVariants as kind
 use Rattle.decision_model.specs.Kind.{kind_word}
-use Rattle.decision_model.specs.declared.limits.TheConstants.{MOST_RATE, MOST_PERIODS, MOST_ECHELONS, MOST_TOTAL}
+use Rattle.decision_model.specs.Limits.{most_rate, most_periods, most_echelons, most_total}
 use Rattle.decision_model.specs.Serial.{IsReadableSerial}
-use Rattle.instance_json.specs.Numbers.{amount_in, cap_in, some_amounts_in, rates_in, start_positions_in}
-use Rattle.instance_json.specs.LawTexts.{laws_in}
-use Rattle.instance_json.specs.Fields.{discount_in}
+use Rattle.json_forms.specs.Numbers.{amount_in, cap_in, some_amounts_in, rates_in, start_positions_in}
+use Rattle.json_forms.specs.LawTexts.{laws_in}
+use Rattle.json_forms.specs.Discounts.{discount_in}
 use Rattle.instance_json.specs.Positions.{is_start}
-use Rattle.instance_json.specs.Keys.{has_keys}
-use Rattle.instance_json.specs.WrittenValues.{amount_data, position_data, amounts_data, positions_data, pair_data, laws_data}
+use Rattle.json_forms.specs.Keys.{has_keys}
+use Rattle.json_forms.specs.WrittenValues.{amount_data, position_data, amounts_data, positions_data, pair_data, laws_data}
 use Rattle.instance_json.specs.Serial.{serial_keys, serial_of, serial_members, serial_data, serial_text}
 use Rattle.instance_json.specs.Reads.{kind_in}
-use Rattle.instance_json.proofs.BackNumbers.{cap_back, some_amounts_back, rates_back, start_positions_back}
-use Rattle.instance_json.proofs.BackLaws.{laws_back}
-use Rattle.instance_json.proofs.BackFields.{discount_back, is_start_back}
-use Rattle.instance_json.proofs.BackKeys.{given_absent, required_back, optional_back, required_amount, in_range_back}
-use Rattle.instance_json.proofs.Plain.{IsPlain, one_deeper, object_plain, amount_plain, amounts_plain, position_plain, positions_plain, text_plain, pair_plain, laws_plain}
+use Rattle.json_forms.proofs.BackNumbers.{cap_back, some_amounts_back, rates_back, start_positions_back}
+use Rattle.json_forms.proofs.BackLaws.{laws_back}
+use Rattle.json_forms.proofs.BackDiscount.{discount_back}
+use Rattle.instance_json.proofs.BackFields.{is_start_back}
+use Rattle.json_forms.proofs.BackKeys.{given_absent, required_back, optional_back, required_amount, in_range_back}
+use Rattle.json_forms.proofs.Plain.{IsPlain, one_deeper, object_plain, amount_plain, amounts_plain, position_plain, positions_plain, text_plain, pair_plain, laws_plain}
 use Rattle.instance_json.proofs.Proven.{Proven, again}
 
 abbrev Instance : Type 0
@@ -51,12 +52,12 @@ values it is =
     let d = serial_data it in
     let here = under it in
     let echelons = length it.holding in
-    let periods = required_amount 1 MOST_PERIODS (codes "periods") d it.periods here.periods is.periods.least is.periods.most in
-    let holding = required_back (some_amounts_in MOST_RATE 1 MOST_ECHELONS) (codes "holding") d (amounts_data it.holding) it.holding here.holding (some_amounts_back MOST_RATE 1 MOST_ECHELONS it.holding is.holding is.some_echelon is.most_echelons) in
-    let unit = optional_back (rates_in MOST_RATE echelons) (replicate echelons 0) (codes "unit") d (amounts_data it.unit) it.unit here.unit (rates_back MOST_RATE echelons it.unit is.unit is.unit_each) in
-    let stockout = required_amount 0 MOST_RATE (codes "stockout") d it.stockout here.stockout (omega arith) is.stockout in
+    let periods = required_amount 1 most_periods (codes "periods") d it.periods here.periods is.periods.least is.periods.most in
+    let holding = required_back (some_amounts_in most_rate 1 most_echelons) (codes "holding") d (amounts_data it.holding) it.holding here.holding (some_amounts_back most_rate 1 most_echelons it.holding is.holding is.some_echelon is.most_echelons) in
+    let unit = optional_back (rates_in most_rate echelons) (replicate echelons 0) (codes "unit") d (amounts_data it.unit) it.unit here.unit (rates_back most_rate echelons it.unit is.unit is.unit_each) in
+    let stockout = required_amount 0 most_rate (codes "stockout") d it.stockout here.stockout (omega arith) is.stockout in
     let discount = optional_back discount_in (1, 1) (codes "discount") d (pair_data it.discount_num it.discount_den) (it.discount_num, it.discount_den) here.discount (discount_back it.discount_num it.discount_den is.discount) in
-    let total = given_absent (amount_in 1 MOST_TOTAL) (codes "total") d here.total in
+    let total = given_absent (amount_in 1 most_total) (codes "total") d here.total in
     let laws = required_back (laws_in it.periods None) (codes "demand") d (laws_data it.laws) it.laws here.demand (laws_back it.periods it.laws is.laws) in
     let cap = required_back cap_in (codes "cap") d (position_data it.cap) it.cap here.cap (cap_back it.cap is.cap) in
     let start = required_back (start_positions_in echelons) (codes "start") d (positions_data it.start) it.start here.start (start_positions_back echelons it.start is.start is.start_each) in

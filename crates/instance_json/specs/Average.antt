@@ -4,17 +4,17 @@ use Rattle.serde_json.specs.Data.{Data, string, object}
 use Rattle.decision_model.specs.declared.kinds.Kind.TheVariants as kind
 use Rattle.decision_model.specs.Kind.{kind_word}
 use Rattle.decision_model.specs.declared.average.Average.{Average}
-use Rattle.decision_model.specs.declared.limits.TheConstants.{MOST_RATE, MOST_SETUP, MOST_LEAD}
+use Rattle.decision_model.specs.Limits.{most_rate, most_setup, most_lead}
 use Rattle.decision_model.specs.Average.{IsReadableAverage, HasDemand, has_demand, IsUnitDemand, is_unit_demand}
-use Rattle.instance_json.specs.declared.fault.InstanceFault.{InstanceFault}
-use Rattle.instance_json.specs.declared.fault.InstanceFault.TheVariants.{NoDemand, NotUnitDemand}
-use Rattle.instance_json.specs.Steps.{◌>>=◌, unless}
-use Rattle.instance_json.specs.Numbers.{amount_in, position_in}
-use Rattle.instance_json.specs.LawTexts.{law_in}
+use Rattle.json_forms.specs.declared.fault.InstanceFault.{InstanceFault}
+use Rattle.json_forms.specs.declared.fault.InstanceFault.TheVariants.{NoDemand, NotUnitDemand}
+use Rattle.json_forms.specs.Steps.{◌>>=◌, unless}
+use Rattle.json_forms.specs.Numbers.{amount_in, position_in}
+use Rattle.json_forms.specs.LawTexts.{law_in}
 use Rattle.instance_json.specs.Fields.{policy_in}
-use Rattle.instance_json.specs.Keys.{Row, needs, allows, required, optional, in_range}
-use Rattle.instance_json.specs.WrittenValues.{amount_data, position_data, law_data}
-use Rattle.instance_json.specs.Members.{Named, listed}
+use Rattle.json_forms.specs.Keys.{Row, needs, allows, required, optional, in_range}
+use Rattle.json_forms.specs.WrittenValues.{amount_data, position_data, law_data}
+use Rattle.json_forms.specs.Members.{Named, listed}
 use Rattle.instance_json.specs.KindText.{TextOf}
 
 abbrev pub average_keys : List Row
@@ -33,10 +33,10 @@ average_keys =
 -- the values, key by key; the cap is at least the floor
 unfoldable pub average_of : Data → Result Average InstanceFault
 average_of d = do
-  lead ← optional (amount_in 0 MOST_LEAD) 0 (codes "lead") d
-  setup ← optional (amount_in 0 MOST_SETUP) 0 (codes "setup") d
-  holding ← required (amount_in 0 MOST_RATE) (codes "holding") d
-  stockout ← required (amount_in 0 MOST_RATE) (codes "stockout") d
+  lead ← optional (amount_in 0 most_lead) 0 (codes "lead") d
+  setup ← optional (amount_in 0 most_setup) 0 (codes "setup") d
+  holding ← required (amount_in 0 most_rate) (codes "holding") d
+  stockout ← required (amount_in 0 most_rate) (codes "stockout") d
   law ← required law_in (codes "demand") d
   floor ← required position_in (codes "floor") d
   cap ← required position_in (codes "cap") d

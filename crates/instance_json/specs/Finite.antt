@@ -4,18 +4,18 @@ use Rattle.serde_json.specs.Data.{Data, string, object}
 use Rattle.decision_model.specs.declared.kinds.Kind.TheVariants as kind
 use Rattle.decision_model.specs.Kind.{kind_word}
 use Rattle.decision_model.specs.declared.finite.Finite.{Finite}
-use Rattle.decision_model.specs.declared.limits.TheConstants.{MOST_RATE, MOST_SETUP, MOST_PERIODS, MOST_LEAD, MOST_ORDER, MOST_TOTAL}
+use Rattle.decision_model.specs.Limits.{most_rate, most_setup, most_periods, most_lead, most_order, most_total}
 use Rattle.decision_model.specs.Rates.{IsRate}
 use Rattle.decision_model.specs.Finite.{IsReadableFinite}
-use Rattle.instance_json.specs.declared.fault.InstanceFault.{InstanceFault}
+use Rattle.json_forms.specs.declared.fault.InstanceFault.{InstanceFault}
 use Rattle.instance_json.specs.declared.finite.FiniteCosts.{FiniteCosts}
-use Rattle.instance_json.specs.Steps.{◌>>=◌}
-use Rattle.instance_json.specs.Numbers.{amount_in, position_in, cap_in}
-use Rattle.instance_json.specs.LawTexts.{laws_in}
-use Rattle.instance_json.specs.Fields.{discount_in}
-use Rattle.instance_json.specs.Keys.{Row, needs, allows, required, given, optional, in_range}
-use Rattle.instance_json.specs.WrittenValues.{amount_data, position_data, pair_data, laws_data}
-use Rattle.instance_json.specs.Members.{Named, listed}
+use Rattle.json_forms.specs.Steps.{◌>>=◌}
+use Rattle.json_forms.specs.Numbers.{amount_in, position_in, cap_in}
+use Rattle.json_forms.specs.LawTexts.{laws_in}
+use Rattle.json_forms.specs.Discounts.{discount_in}
+use Rattle.json_forms.specs.Keys.{Row, needs, allows, required, given, optional, in_range}
+use Rattle.json_forms.specs.WrittenValues.{amount_data, position_data, pair_data, laws_data}
+use Rattle.json_forms.specs.Members.{Named, listed}
 use Rattle.instance_json.specs.KindText.{TextOf}
 
 abbrev pub finite_keys : List Row
@@ -39,7 +39,7 @@ finite_keys =
 
 -- the cost rates in range
 pub record AreCostRates (costs : FiniteCosts) : Type 0 where
-  pub setup : costs.setup ≤ MOST_SETUP
+  pub setup : costs.setup ≤ most_setup
   pub unit : IsRate costs.unit
   pub holding : IsRate costs.holding
   pub stockout : IsRate costs.stockout
@@ -49,23 +49,23 @@ pub record AreCostRates (costs : FiniteCosts) : Type 0 where
 -- the cost rates
 unfoldable pub finite_costs_of : Data → Result FiniteCosts InstanceFault
 finite_costs_of d = do
-  setup ← optional (amount_in 0 MOST_SETUP) 0 (codes "setup") d
-  unit ← optional (amount_in 0 MOST_RATE) 0 (codes "unit") d
-  holding ← required (amount_in 0 MOST_RATE) (codes "holding") d
-  stockout ← required (amount_in 0 MOST_RATE) (codes "stockout") d
-  end_holding ← optional (amount_in 0 MOST_RATE) 0 (codes "end_holding") d
-  end_stockout ← optional (amount_in 0 MOST_RATE) 0 (codes "end_stockout") d
+  setup ← optional (amount_in 0 most_setup) 0 (codes "setup") d
+  unit ← optional (amount_in 0 most_rate) 0 (codes "unit") d
+  holding ← required (amount_in 0 most_rate) (codes "holding") d
+  stockout ← required (amount_in 0 most_rate) (codes "stockout") d
+  end_holding ← optional (amount_in 0 most_rate) 0 (codes "end_holding") d
+  end_stockout ← optional (amount_in 0 most_rate) 0 (codes "end_stockout") d
   Ok (record { setup = setup; unit = unit; holding = holding; stockout = stockout; end_holding = end_holding; end_stockout = end_stockout })
 
 -- the values, key by key: one law, or one for each of the periods and of the lead time's
 unfoldable pub finite_of : Data → Result Finite InstanceFault
 finite_of d = do
-  periods ← required (amount_in 1 MOST_PERIODS) (codes "periods") d
-  lead ← optional (amount_in 0 MOST_LEAD) 0 (codes "lead") d
+  periods ← required (amount_in 1 most_periods) (codes "periods") d
+  lead ← optional (amount_in 0 most_lead) 0 (codes "lead") d
   costs ← finite_costs_of d
   discount ← optional discount_in (1, 1) (codes "discount") d
-  most ← given (amount_in 1 MOST_ORDER) (codes "most") d
-  total ← given (amount_in 1 MOST_TOTAL) (codes "total") d
+  most ← given (amount_in 1 most_order) (codes "most") d
+  total ← given (amount_in 1 most_total) (codes "total") d
   laws ← required (laws_in (periods + lead) total) (codes "demand") d
   cap ← required cap_in (codes "cap") d
   start ← required position_in (codes "start") d

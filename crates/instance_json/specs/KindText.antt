@@ -1,9 +1,9 @@
 -- What the text of a kind's instances is.
 use Rattle.std.specs.Prelude.{List, Result, ⊤}
 use Rattle.serde_json.specs.Data.{Data}
-use Rattle.instance_json.specs.declared.fault.InstanceFault.{InstanceFault}
-use Rattle.instance_json.specs.Steps.{◌>>=◌}
-use Rattle.instance_json.specs.Keys.{Row, has_keys}
+use Rattle.json_forms.specs.declared.fault.InstanceFault.{InstanceFault}
+use Rattle.json_forms.specs.Steps.{◌>>=◌}
+use Rattle.json_forms.specs.Keys.{Row, has_keys}
 
 pub record TextOf (A : Type 0) : Type 1 where
   -- the table of keys

@@ -5,8 +5,8 @@ use Rattle.decision_model.specs.declared.kinds.Kind.{Kind}
 use Rattle.decision_model.specs.declared.kinds.Kind.TheVariants as kind
 use Rattle.decision_model.specs.declared.instance.Instance.{Instance}
 use Rattle.decision_model.specs.declared.instance.Instance.TheVariants.{News, Lots, Finite, Average, Serial, Network}
-use Rattle.instance_json.specs.declared.fault.InstanceFault.{InstanceFault}
-use Rattle.instance_json.specs.Steps.{◌>>=◌}
+use Rattle.json_forms.specs.declared.fault.InstanceFault.{InstanceFault}
+use Rattle.json_forms.specs.Steps.{◌>>=◌}
 use Rattle.instance_json.specs.KindText.{TextOf, read_by}
 use Rattle.instance_json.specs.News.{news_text}
 use Rattle.instance_json.specs.Lots.{lots_text}

@@ -4,15 +4,15 @@ use Rattle.serde_json.specs.Data.{Data, string, object}
 use Rattle.decision_model.specs.declared.kinds.Kind.TheVariants as kind
 use Rattle.decision_model.specs.Kind.{kind_word}
 use Rattle.decision_model.specs.declared.lots.LotSize.{LotSize}
-use Rattle.decision_model.specs.declared.limits.TheConstants.{MOST_RATE, MOST_LOT_PERIODS, MOST_LOT_DEMAND, MOST_LOT_SETUP}
+use Rattle.decision_model.specs.Limits.{most_rate, most_lot_periods, most_lot_demand, most_lot_setup}
 use Rattle.decision_model.specs.Lots.{IsReadableLots, speculative_period_of, HasNoSpeculation}
-use Rattle.instance_json.specs.declared.fault.InstanceFault.{InstanceFault}
-use Rattle.instance_json.specs.declared.fault.InstanceFault.TheVariants.{Speculative}
-use Rattle.instance_json.specs.Steps.{◌>>=◌}
-use Rattle.instance_json.specs.Numbers.{some_amounts_in, rates_in}
-use Rattle.instance_json.specs.Keys.{Row, needs, allows, required, optional}
-use Rattle.instance_json.specs.WrittenValues.{amounts_data}
-use Rattle.instance_json.specs.Members.{Named, listed}
+use Rattle.json_forms.specs.declared.fault.InstanceFault.{InstanceFault}
+use Rattle.json_forms.specs.declared.fault.InstanceFault.TheVariants.{Speculative}
+use Rattle.json_forms.specs.Steps.{◌>>=◌}
+use Rattle.json_forms.specs.Numbers.{some_amounts_in, rates_in}
+use Rattle.json_forms.specs.Keys.{Row, needs, allows, required, optional}
+use Rattle.json_forms.specs.WrittenValues.{amounts_data}
+use Rattle.json_forms.specs.Members.{Named, listed}
 use Rattle.instance_json.specs.KindText.{TextOf}
 
 abbrev pub lots_keys : List Row
@@ -27,10 +27,10 @@ lots_keys =
 -- the values, key by key: one demand a period, and the rates of each period
 unfoldable pub lots_of : Data → Result LotSize InstanceFault
 lots_of d = do
-  demand ← required (some_amounts_in MOST_LOT_DEMAND 1 MOST_LOT_PERIODS) (codes "demand") d
-  setup ← required (rates_in MOST_LOT_SETUP (length demand)) (codes "setup") d
-  holding ← required (rates_in MOST_RATE (length demand)) (codes "holding") d
-  unit ← optional (rates_in MOST_RATE (length demand)) (replicate (length demand) 0) (codes "unit") d
+  demand ← required (some_amounts_in most_lot_demand 1 most_lot_periods) (codes "demand") d
+  setup ← required (rates_in most_lot_setup (length demand)) (codes "setup") d
+  holding ← required (rates_in most_rate (length demand)) (codes "holding") d
+  unit ← optional (rates_in most_rate (length demand)) (replicate (length demand) 0) (codes "unit") d
   Ok (record { demand = demand; setup = setup; unit = unit; holding = holding })
 
 -- the first period with speculative costs is refused

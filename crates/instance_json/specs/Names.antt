@@ -1,16 +1,14 @@
 -- Names of nodes, and the places that they stand for.
-use Rattle.std.specs.Prelude.{ℕ, zero, suc, List, [], length, map, codes, Bool, if◌then◌else◌, Option, Some, None, option_and_then, unwrap_or, Result, Ok, Err}
+use Rattle.std.specs.Prelude.{ℕ, zero, suc, List, [], length, map, codes, if◌then◌else◌, Option, Some, None, option_and_then, unwrap_or, Result, Ok, Err}
 use Rattle.std.specs.Str.{bytes_eq}
 use Rattle.std.proofs.Common.{get_or}
 use Rattle.serde_json.specs.Data.{Data}
 use Rattle.serde_json.specs.Find.{get, as_str}
-use Rattle.decision_model.specs.Nodes.{outside, is_node_name}
-use Rattle.instance_json.specs.declared.fault.FieldFault.{FieldFault}
-use Rattle.instance_json.specs.declared.fault.FieldFault.TheVariants.{WrongType, OutOfRange}
-use Rattle.instance_json.specs.Steps.{◌>>=◌}
-
-abbrev pub Name : Type 0
-Name = List ℕ
+use Rattle.decision_model.specs.Nodes.{outside}
+use Rattle.json_forms.specs.declared.fault.FieldFault.{FieldFault}
+use Rattle.json_forms.specs.declared.fault.FieldFault.TheVariants.{OutOfRange}
+use Rattle.json_forms.specs.NodeNames.{Name, text_in}
+use Rattle.json_forms.specs.Steps.{◌>>=◌}
 
 -- the last place below n that has the name
 abbrev pub place_below : List Name → Name → ℕ → Option ℕ
@@ -27,18 +25,6 @@ name_under d = unwrap_or (option_and_then as_str (get (codes "name") d)) []
 
 abbrev pub names_in : List Data → List Name
 names_in ds = map name_under ds
-
--- ---- values that are texts
-abbrev pub text_or_fault : Option Name → Result Name FieldFault
-text_or_fault None = Err WrongType
-text_or_fault (Some s) = Ok s
-
-abbrev pub text_in : Data → Result Name FieldFault
-text_in d = text_or_fault (as_str d)
-
--- the name of a node
-abbrev pub node_name_in : Data → Result Name FieldFault
-node_name_in d = text_in d >>= λ name. if is_node_name name then Ok name else Err OutOfRange
 
 abbrev pub place_or_fault : Option ℕ → Result ℕ FieldFault
 place_or_fault None = Err OutOfRange

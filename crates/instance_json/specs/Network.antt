@@ -1,6 +1,5 @@
 -- The text of a network.
-use Rattle.std.specs.Prelude.{◌≡◌, ℕ, ◌≤◌, IfSome, List, [], ◌∷◌, ◌++◌, map, codes, true, if◌then◌else◌, Option, Some, None, Result, Ok, Err, ⊤}
-use Rattle.std.specs.Str.{is_utf8}
+use Rattle.std.specs.Prelude.{◌≡◌, ℕ, ◌≤◌, IfSome, List, [], ◌∷◌, ◌++◌, map, codes, true, Option, Some, None, Result, Ok, Err, ⊤}
 use Rattle.serde_json.specs.Data.{Data, string, object}
 use Rattle.decision_model.specs.declared.kinds.Kind.TheVariants as kind
 use Rattle.decision_model.specs.Kind.{kind_word}
@@ -14,26 +13,27 @@ use Rattle.decision_model.specs.declared.network.Rule.{Rule}
 use Rattle.decision_model.specs.declared.network.Rule.TheVariants.{Base, MinMax, Lot, Echelon, House}
 use Rattle.decision_model.specs.declared.network.Demand.{Demand}
 use Rattle.decision_model.specs.declared.network.Demand.TheVariants.{Nobody, Trace, Drawn}
-use Rattle.decision_model.specs.declared.limits.TheConstants.{MOST_NETWORK_PERIODS, MOST_NODES, MOST_PAUSES}
+use Rattle.decision_model.specs.Limits.{most_network_periods, most_nodes, most_pauses}
 use Rattle.decision_model.specs.Nodes.{outside, node_at}
 use Rattle.decision_model.specs.Shape.{misshapen_node}
 use Rattle.decision_model.specs.Pauses.{overlapping_span}
 use Rattle.decision_model.specs.Load.{overloaded_node}
 use Rattle.decision_model.specs.Network.{IsReadableNetwork, is_seeded}
-use Rattle.instance_json.specs.declared.law_texts.TheConstants.{MOST_WORD}
-use Rattle.instance_json.specs.declared.fault.KeyList.TheVariants.{Nodes, Pauses}
-use Rattle.instance_json.specs.declared.fault.InstanceFault.{InstanceFault}
-use Rattle.instance_json.specs.declared.fault.InstanceFault.TheVariants.{Missing, NetworkShape, Overlap, Load}
-use Rattle.instance_json.specs.Faults.{top_key}
-use Rattle.instance_json.specs.Steps.{◌>>=◌, unless}
-use Rattle.instance_json.specs.Numbers.{amount_in}
-use Rattle.instance_json.specs.Keys.{Row, needs, allows, required, given, optional}
-use Rattle.instance_json.specs.Items.{objects_in, item_of, items_from}
-use Rattle.instance_json.specs.Names.{Name, names_in}
+use Rattle.decision_model.specs.Limits.{most_word}
+use Rattle.json_forms.specs.declared.fault.KeyList.TheVariants.{Nodes, Pauses}
+use Rattle.json_forms.specs.declared.fault.InstanceFault.{InstanceFault}
+use Rattle.json_forms.specs.declared.fault.InstanceFault.TheVariants.{Missing, NetworkShape, Overlap, Load}
+use Rattle.json_forms.specs.Faults.{top_key}
+use Rattle.json_forms.specs.Steps.{◌>>=◌, unless}
+use Rattle.json_forms.specs.Numbers.{amount_in}
+use Rattle.json_forms.specs.Keys.{Row, needs, allows, required, given, optional}
+use Rattle.json_forms.specs.Items.{objects_in, item_of, items_from}
+use Rattle.json_forms.specs.NodeNames.{Name, name_data}
+use Rattle.instance_json.specs.Names.{names_in}
 use Rattle.instance_json.specs.Nodes.{node_keys, node_of}
 use Rattle.instance_json.specs.Pauses.{span_keys, span_of}
-use Rattle.instance_json.specs.WrittenValues.{amount_data, position_data, list_data, amounts_data, law_data}
-use Rattle.instance_json.specs.Members.{Named, listed}
+use Rattle.json_forms.specs.WrittenValues.{amount_data, position_data, list_data, amounts_data, law_data}
+use Rattle.json_forms.specs.Members.{Named, listed}
 use Rattle.instance_json.specs.KindText.{TextOf}
 
 abbrev pub network_keys : List Row
@@ -48,11 +48,11 @@ network_keys =
 -- the values, key by key, and the items of a list where its key is reached
 unfoldable pub network_of : Data → Result Network InstanceFault
 network_of d = do
-  periods ← required (amount_in 1 MOST_NETWORK_PERIODS) (codes "periods") d
-  seed ← given (amount_in 0 MOST_WORD) (codes "seed") d
-  node_items ← required (objects_in 1 MOST_NODES) (codes "nodes") d
+  periods ← required (amount_in 1 most_network_periods) (codes "periods") d
+  seed ← given (amount_in 0 most_word) (codes "seed") d
+  node_items ← required (objects_in 1 most_nodes) (codes "nodes") d
   nodes ← items_from Nodes 1 (item_of node_keys (node_of periods (names_in node_items))) node_items
-  pause_items ← optional (objects_in 0 MOST_PAUSES) [] (codes "pauses") d
+  pause_items ← optional (objects_in 0 most_pauses) [] (codes "pauses") d
   pauses ← items_from Pauses 1 (item_of span_keys (span_of periods (names_in node_items))) pause_items
   Ok (record { periods = periods; seed = seed; nodes = nodes; pauses = pauses })
 
@@ -77,13 +77,6 @@ pub record MeetsNetworkRules (net : Network) : Type 0 where
   pub light : overloaded_node net ≡ None
 
 -- ---- what is written
--- a name as a text; bytes that are no text, as no valid network has them, as an empty one
-abbrev pub name_text : Name → Name
-name_text name = if is_utf8 name then name else []
-
-abbrev pub name_data : Name → Data
-name_data name = string (name_text name)
-
 -- the name of a node at a place, or of the outside
 abbrev pub name_at : List NodeSpec → Option ℕ → Name
 name_at nodes None = outside
@@ -170,6 +163,6 @@ network_text = record {
   readable = IsReadableNetwork;
   broken = network_broken;
   meets = MeetsNetworkRules;
-  typed = λ net. IfSome net.seed (λ n. n ≤ MOST_WORD);
+  typed = λ net. IfSome net.seed (λ n. n ≤ most_word);
   written = network_data;
 }

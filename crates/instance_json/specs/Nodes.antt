@@ -5,15 +5,15 @@ use Rattle.serde_json.specs.Find.{get, as_object}
 use Rattle.decision_model.specs.declared.network.NodeSpec.{NodeSpec}
 use Rattle.decision_model.specs.declared.network.Demand.{Demand}
 use Rattle.decision_model.specs.declared.network.Demand.TheVariants.{Nobody, Trace, Drawn}
-use Rattle.decision_model.specs.declared.limits.TheConstants.{MOST_RATE, MOST_INITIAL, MOST_TRACE}
-use Rattle.instance_json.specs.declared.fault.FieldFault.{FieldFault}
-use Rattle.instance_json.specs.declared.fault.FieldFault.TheVariants.{WrongType}
-use Rattle.instance_json.specs.declared.fault.InstanceFault.{InstanceFault}
-use Rattle.instance_json.specs.Steps.{◌>>=◌}
-use Rattle.instance_json.specs.Numbers.{amount_in, some_amounts_in}
-use Rattle.instance_json.specs.LawTexts.{key_count, law_in}
-use Rattle.instance_json.specs.Keys.{Row, needs, allows, required, optional}
-use Rattle.instance_json.specs.Names.{Name, node_name_in}
+use Rattle.decision_model.specs.Limits.{most_rate, most_initial, most_trace}
+use Rattle.json_forms.specs.declared.fault.FieldFault.{FieldFault}
+use Rattle.json_forms.specs.declared.fault.FieldFault.TheVariants.{WrongType}
+use Rattle.json_forms.specs.declared.fault.InstanceFault.{InstanceFault}
+use Rattle.json_forms.specs.Steps.{◌>>=◌}
+use Rattle.json_forms.specs.Numbers.{amount_in, some_amounts_in}
+use Rattle.json_forms.specs.LawTexts.{key_count, law_in}
+use Rattle.json_forms.specs.Keys.{Row, needs, allows, required, optional}
+use Rattle.json_forms.specs.NodeNames.{Name, node_name_in}
 use Rattle.instance_json.specs.Sources.{sources_in}
 use Rattle.instance_json.specs.OrderRules.{rule_in}
 
@@ -24,7 +24,7 @@ is_trace d = is_some (get (codes "trace") d) && (key_count (as_object d) == 1)
 
 abbrev pub trace_under : ℕ → Option Data → Result Demand FieldFault
 trace_under periods None = Err WrongType
-trace_under periods (Some d) = some_amounts_in MOST_TRACE periods periods d >>= λ demands. Ok (Trace demands)
+trace_under periods (Some d) = some_amounts_in most_trace periods periods d >>= λ demands. Ok (Trace demands)
 
 -- one demand a period, or a law
 abbrev pub demand_in : ℕ → Data → Result Demand FieldFault
@@ -49,9 +49,9 @@ node_keys =
 unfoldable pub node_of : ℕ → List Name → Data → Result NodeSpec InstanceFault
 node_of periods names d = do
   name ← required node_name_in (codes "name") d
-  initial ← required (amount_in 0 MOST_INITIAL) (codes "initial") d
-  holding ← required (amount_in 0 MOST_RATE) (codes "holding") d
-  stockout ← optional (amount_in 0 MOST_RATE) 0 (codes "stockout") d
+  initial ← required (amount_in 0 most_initial) (codes "initial") d
+  holding ← required (amount_in 0 most_rate) (codes "holding") d
+  stockout ← optional (amount_in 0 most_rate) 0 (codes "stockout") d
   rule ← required rule_in (codes "rule") d
   sources ← required (sources_in names) (codes "sources") d
   demand ← optional (demand_in periods) Nobody (codes "demand") d

@@ -5,13 +5,13 @@ use Rattle.serde_json.specs.Data.{Data}
 use Rattle.serde_json.specs.Find.{get, as_object}
 use Rattle.decision_model.specs.declared.network.Rule.{Rule}
 use Rattle.decision_model.specs.declared.network.Rule.TheVariants.{Base, MinMax, Lot, Echelon, House}
-use Rattle.decision_model.specs.declared.limits.TheConstants.{MOST_LOT, MOST_HOUSE_INDEX, MOST_HOUSE_CAP}
-use Rattle.instance_json.specs.declared.fault.FieldFault.{FieldFault}
-use Rattle.instance_json.specs.declared.fault.FieldFault.TheVariants.{WrongType, OutOfRange}
-use Rattle.instance_json.specs.Steps.{◌>>=◌}
-use Rattle.instance_json.specs.Numbers.{position_in}
-use Rattle.instance_json.specs.LawTexts.{key_count}
-use Rattle.instance_json.specs.Names.{Name}
+use Rattle.decision_model.specs.Limits.{most_lot, most_house_index, most_house_cap}
+use Rattle.json_forms.specs.declared.fault.FieldFault.{FieldFault}
+use Rattle.json_forms.specs.declared.fault.FieldFault.TheVariants.{WrongType, OutOfRange}
+use Rattle.json_forms.specs.Steps.{◌>>=◌}
+use Rattle.json_forms.specs.Numbers.{position_in}
+use Rattle.json_forms.specs.LawTexts.{key_count}
+use Rattle.json_forms.specs.NodeNames.{Name}
 use Rattle.instance_json.specs.Sources.{is_number, amount_under}
 
 -- an object that has a whole number under each of these keys, and no other key
@@ -37,7 +37,7 @@ min_max_in d = do
 abbrev pub lot_in : Data → Result Rule FieldFault
 lot_in d = do
   reorder ← position_under (get (codes "reorder") d)
-  lot ← amount_under 1 MOST_LOT (get (codes "lot") d)
+  lot ← amount_under 1 most_lot (get (codes "lot") d)
   Ok (Lot reorder lot)
 
 abbrev pub echelon_in : Data → Result Rule FieldFault
@@ -47,8 +47,8 @@ echelon_in d = do
 
 abbrev pub house_in : Data → Result Rule FieldFault
 house_in d = do
-  index ← amount_under 0 MOST_HOUSE_INDEX (get (codes "house") d)
-  cap ← amount_under 0 MOST_HOUSE_CAP (get (codes "cap") d)
+  index ← amount_under 0 most_house_index (get (codes "house") d)
+  cap ← amount_under 0 most_house_cap (get (codes "cap") d)
   Ok (House index cap)
 
 -- a rule, by its keys

@@ -5,13 +5,14 @@ use Rattle.serde_json.specs.Data.{Data}
 use Rattle.decision_model.specs.declared.network.Span.{Span}
 use Rattle.decision_model.specs.declared.network.Pause.{Pause}
 use Rattle.decision_model.specs.declared.network.Pause.TheVariants.{Orders, Shipments, Receipts}
-use Rattle.instance_json.specs.declared.fault.FieldFault.{FieldFault}
-use Rattle.instance_json.specs.declared.fault.FieldFault.TheVariants.{OutOfRange}
-use Rattle.instance_json.specs.declared.fault.InstanceFault.{InstanceFault}
-use Rattle.instance_json.specs.Steps.{◌>>=◌}
-use Rattle.instance_json.specs.Numbers.{amount_in}
-use Rattle.instance_json.specs.Keys.{Row, needs, required}
-use Rattle.instance_json.specs.Names.{Name, text_in, node_in}
+use Rattle.json_forms.specs.declared.fault.FieldFault.{FieldFault}
+use Rattle.json_forms.specs.declared.fault.FieldFault.TheVariants.{OutOfRange}
+use Rattle.json_forms.specs.declared.fault.InstanceFault.{InstanceFault}
+use Rattle.json_forms.specs.Steps.{◌>>=◌}
+use Rattle.json_forms.specs.Numbers.{amount_in}
+use Rattle.json_forms.specs.Keys.{Row, needs, required}
+use Rattle.json_forms.specs.NodeNames.{Name, text_in}
+use Rattle.instance_json.specs.Names.{node_in}
 
 abbrev pub pause_named : Name → Result Pause FieldFault
 pause_named word =

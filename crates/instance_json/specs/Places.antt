@@ -3,7 +3,8 @@ use Rattle.std.specs.Prelude.{◌≡◌, ℕ, List}
 use Rattle.std.specs.Str.{bytes_eq}
 use Rattle.std.specs.HashMap.{HashMap, get_by}
 use Rattle.std.proofs.Common.{Bor}
-use Rattle.instance_json.specs.Names.{Name, place_of}
+use Rattle.json_forms.specs.NodeNames.{Name}
+use Rattle.instance_json.specs.Names.{place_of}
 
 -- a look-up finds the last place of each name
 abbrev pub FindsPlaces : {S : Type 0} → HashMap (Bor (List ℕ)) ℕ S → List Name → Type 0

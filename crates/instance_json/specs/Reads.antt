@@ -1,25 +1,16 @@
 -- What bytes say: an instance, or the first fault.
-use Rattle.std.specs.Prelude.{ℕ, List, codes, if◌then◌else◌, Option, Some, None, option_and_then, Result, Ok, Err}
-use Rattle.std.specs.Str.{is_utf8}
+use Rattle.std.specs.Prelude.{ℕ, List, codes, Option, Some, None, option_and_then, Result, Ok, Err}
 use Rattle.serde_json.specs.Data.{Data}
 use Rattle.serde_json.specs.Find.{get, as_str}
-use Rattle.serde_json.specs.Read.{read}
 use Rattle.decision_model.specs.declared.kinds.Kind.{Kind}
 use Rattle.decision_model.specs.declared.instance.Instance.{Instance}
 use Rattle.decision_model.specs.Kind.{kind_named}
-use Rattle.instance_json.specs.declared.fault.InstanceFault.{InstanceFault}
-use Rattle.instance_json.specs.declared.fault.InstanceFault.TheVariants.{NotJson, UnknownKind}
-use Rattle.instance_json.specs.Steps.{◌>>=◌}
+use Rattle.json_forms.specs.declared.fault.InstanceFault.{InstanceFault}
+use Rattle.json_forms.specs.declared.fault.InstanceFault.TheVariants.{UnknownKind}
+use Rattle.json_forms.specs.Steps.{◌>>=◌}
+use Rattle.json_forms.specs.Values.{value_in}
 use Rattle.instance_json.specs.Kinds.{of_kind}
 use Rattle.instance_json.specs.Rules.{rules_of}
-
--- the value of a text
-abbrev pub value_or_fault : Option Data → Result Data InstanceFault
-value_or_fault None = Err NotJson
-value_or_fault (Some d) = Ok d
-
-abbrev pub value_in : List ℕ → Result Data InstanceFault
-value_in bytes = value_or_fault (if is_utf8 bytes then read bytes else None)
 
 -- the kind that an object says
 abbrev pub kind_in : Data → Option Kind

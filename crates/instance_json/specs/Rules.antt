@@ -2,9 +2,9 @@
 use Rattle.std.specs.Prelude.{Result, ⊤}
 use Rattle.decision_model.specs.declared.instance.Instance.{Instance}
 use Rattle.decision_model.specs.Valid.{grid_fits, width_fits}
-use Rattle.instance_json.specs.declared.fault.InstanceFault.{InstanceFault}
-use Rattle.instance_json.specs.declared.fault.InstanceFault.TheVariants.{Grid, Width}
-use Rattle.instance_json.specs.Steps.{◌>>=◌, unless}
+use Rattle.json_forms.specs.declared.fault.InstanceFault.{InstanceFault}
+use Rattle.json_forms.specs.declared.fault.InstanceFault.TheVariants.{Grid, Width}
+use Rattle.json_forms.specs.Steps.{◌>>=◌, unless}
 use Rattle.instance_json.specs.Kinds.{text_of}
 
 -- the first rule that is broken: one of the kind, the size of the grid, the width of the exact numbers

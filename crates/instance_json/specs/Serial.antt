@@ -4,17 +4,17 @@ use Rattle.serde_json.specs.Data.{Data, string, object}
 use Rattle.decision_model.specs.declared.kinds.Kind.TheVariants as kind
 use Rattle.decision_model.specs.Kind.{kind_word}
 use Rattle.decision_model.specs.declared.serial.Serial.{Serial}
-use Rattle.decision_model.specs.declared.limits.TheConstants.{MOST_RATE, MOST_PERIODS, MOST_ECHELONS, MOST_TOTAL}
+use Rattle.decision_model.specs.Limits.{most_rate, most_periods, most_echelons, most_total}
 use Rattle.decision_model.specs.Serial.{IsReadableSerial}
-use Rattle.instance_json.specs.declared.fault.InstanceFault.{InstanceFault}
-use Rattle.instance_json.specs.Steps.{◌>>=◌}
-use Rattle.instance_json.specs.Numbers.{amount_in, cap_in, some_amounts_in, rates_in, start_positions_in}
+use Rattle.json_forms.specs.declared.fault.InstanceFault.{InstanceFault}
+use Rattle.json_forms.specs.Steps.{◌>>=◌}
+use Rattle.json_forms.specs.Numbers.{amount_in, cap_in, some_amounts_in, rates_in, start_positions_in}
 use Rattle.instance_json.specs.Positions.{is_start}
-use Rattle.instance_json.specs.LawTexts.{laws_in}
-use Rattle.instance_json.specs.Fields.{discount_in}
-use Rattle.instance_json.specs.Keys.{Row, needs, allows, required, given, optional, in_range}
-use Rattle.instance_json.specs.WrittenValues.{amount_data, position_data, amounts_data, positions_data, pair_data, laws_data}
-use Rattle.instance_json.specs.Members.{Named, listed}
+use Rattle.json_forms.specs.LawTexts.{laws_in}
+use Rattle.json_forms.specs.Discounts.{discount_in}
+use Rattle.json_forms.specs.Keys.{Row, needs, allows, required, given, optional, in_range}
+use Rattle.json_forms.specs.WrittenValues.{amount_data, position_data, amounts_data, positions_data, pair_data, laws_data}
+use Rattle.json_forms.specs.Members.{Named, listed}
 use Rattle.instance_json.specs.KindText.{TextOf}
 
 abbrev pub serial_keys : List Row
@@ -34,12 +34,12 @@ serial_keys =
 -- the values, key by key: one holding rate an echelon, one law, or one a period
 unfoldable pub serial_of : Data → Result Serial InstanceFault
 serial_of d = do
-  periods ← required (amount_in 1 MOST_PERIODS) (codes "periods") d
-  holding ← required (some_amounts_in MOST_RATE 1 MOST_ECHELONS) (codes "holding") d
-  unit ← optional (rates_in MOST_RATE (length holding)) (replicate (length holding) 0) (codes "unit") d
-  stockout ← required (amount_in 0 MOST_RATE) (codes "stockout") d
+  periods ← required (amount_in 1 most_periods) (codes "periods") d
+  holding ← required (some_amounts_in most_rate 1 most_echelons) (codes "holding") d
+  unit ← optional (rates_in most_rate (length holding)) (replicate (length holding) 0) (codes "unit") d
+  stockout ← required (amount_in 0 most_rate) (codes "stockout") d
   discount ← optional discount_in (1, 1) (codes "discount") d
-  total ← given (amount_in 1 MOST_TOTAL) (codes "total") d
+  total ← given (amount_in 1 most_total) (codes "total") d
   laws ← required (laws_in periods total) (codes "demand") d
   cap ← required cap_in (codes "cap") d
   start ← required (start_positions_in (length holding)) (codes "start") d

@@ -4,13 +4,14 @@ use Rattle.std.specs.List.{list_all}
 use Rattle.serde_json.specs.Data.{Data, string, object}
 use Rattle.serde_json.specs.Find.{get, as_str, as_object}
 use Rattle.decision_model.specs.declared.network.Link.{Link}
-use Rattle.decision_model.specs.declared.limits.TheConstants.{MOST_NETWORK_LEAD, MOST_SOURCES}
-use Rattle.instance_json.specs.declared.fault.FieldFault.{FieldFault}
-use Rattle.instance_json.specs.declared.fault.FieldFault.TheVariants.{WrongType}
-use Rattle.instance_json.specs.Steps.{◌>>=◌, each}
-use Rattle.instance_json.specs.Numbers.{is_whole, amount_in, items_in, of_length_within}
-use Rattle.instance_json.specs.LawTexts.{key_count}
-use Rattle.instance_json.specs.Names.{Name, text_in, supplier}
+use Rattle.decision_model.specs.Limits.{most_network_lead, most_sources}
+use Rattle.json_forms.specs.declared.fault.FieldFault.{FieldFault}
+use Rattle.json_forms.specs.declared.fault.FieldFault.TheVariants.{WrongType}
+use Rattle.json_forms.specs.Steps.{◌>>=◌, each}
+use Rattle.json_forms.specs.Numbers.{is_whole, amount_in, items_in, of_length_within}
+use Rattle.json_forms.specs.LawTexts.{key_count}
+use Rattle.json_forms.specs.NodeNames.{Name, text_in}
+use Rattle.instance_json.specs.Names.{supplier}
 
 -- ---- inner keys
 abbrev pub is_text : Option Data → Bool
@@ -50,8 +51,8 @@ supplier_under names (Some d) = text_in d >>= λ name. Ok (supplier names name)
 abbrev pub source_in : List Name → Data → Result Link FieldFault
 source_in names d = do
   from ← supplier_under names (get (codes "from") d)
-  lead ← amount_under 0 MOST_NETWORK_LEAD (get (codes "lead") d)
-  order_lead ← amount_or_zero MOST_NETWORK_LEAD (get (codes "order_lead") d)
+  lead ← amount_under 0 most_network_lead (get (codes "lead") d)
+  order_lead ← amount_or_zero most_network_lead (get (codes "order_lead") d)
   Ok (record { from = from; lead = lead; order_lead = order_lead })
 
 abbrev pub all_sources : Option (List Data) → Result (List Data) FieldFault
@@ -63,4 +64,4 @@ abbrev pub sources_in : List Name → Data → Result (List Link) FieldFault
 sources_in names d = do
   shaped ← all_sources (items_in d)
   links ← each (source_in names) shaped
-  of_length_within 1 MOST_SOURCES links
+  of_length_within 1 most_sources links

@@ -3,16 +3,16 @@ ghost use Rattle.std.specs.Prelude.{◌≡◌, IsTrue};
 ghost use Rattle.decision_model.specs.Average.{IsUnitDemand};
 ghost use Rattle.instance_json.specs.Average.{lots_fit};
 
-use crate::fault::{InstanceErr, InstanceFault};
 use crate::fields::Policy;
-use crate::form::{in_range, optional, required};
-use crate::keys::KeyRow::{Allowed, Needed};
-use crate::keys::{KeyRow, has_keys};
 use crate::kinds::KindText;
-use crate::laws::DemandLaw;
-use crate::numbers::{LEAD, Position, RATE, SETUP};
-use crate::write_values::{law_value, put_amounts, put_text};
 use decision_model::{Average, Kind, has_demand, is_unit_demand};
+use json_forms::fault::{InstanceErr, InstanceFault};
+use json_forms::form::{in_range, optional, required};
+use json_forms::keys::KeyRow::{Allowed, Needed};
+use json_forms::keys::{KeyRow, has_keys};
+use json_forms::laws::DemandLaw;
+use json_forms::numbers::{LEAD, Position, RATE, SETUP};
+use json_forms::write_values::{law_value, put_amounts, put_text};
 use serde_json::{Map, Value, put};
 use std::alloc::{AllocError, Global};
 
@@ -45,7 +45,7 @@ impl KindText for Average {
         has_keys(alloc, object, &KEYS)
     }
 
-    #[tactic(auto, using(crate::proofs::Chained::gives_refused, crate::proofs::Chained::gives_rest, crate::proofs::Chained::taken), unfolding(crate::specs::Average::average_of))]
+    #[tactic(auto, using(json_forms::proofs::Chained::steps), unfolding(crate::specs::Average::average_of))]
     fn read(alloc: Global, object: &Value) -> Result<Average, InstanceErr> {
         let lead = optional(alloc, object, "lead", LEAD, 0)?;
         let setup = optional(alloc, object, "setup", SETUP, 0)?;

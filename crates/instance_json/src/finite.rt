@@ -1,21 +1,21 @@
 // The text of a finite instance.
 ghost use Rattle.std.specs.Prelude.{◌≡◌, [], ◌++◌, IfOk, OnOk};
 ghost use Rattle.serde_json.specs.View.{view, members_view};
-ghost use Rattle.instance_json.specs.Faults.{Gives};
-ghost use Rattle.instance_json.specs.Members.{put_all, listed};
+ghost use Rattle.json_forms.specs.Faults.{Gives};
+ghost use Rattle.json_forms.specs.Members.{put_all, listed};
 ghost use Rattle.instance_json.specs.Finite.{AreCostRates, finite_costs_of, with_most, finite_to_lead, finite_from_periods};
 
-use crate::fault::{InstanceErr, InstanceFault};
-use crate::fields::Discount;
-use crate::form::{given, in_range, optional, required};
-use crate::keys::KeyRow::{Allowed, Needed};
-use crate::keys::{KeyRow, has_keys};
 use crate::kinds::KindText;
-use crate::laws::DemandLaws;
-use crate::numbers::{Amount, Cap, LEAD, PERIODS, Position, RATE, SETUP, TOTAL};
-use crate::write_values::{discount_value, laws_value, put_amounts, put_text};
 use decision_model::limits::MOST_ORDER;
 use decision_model::{Finite, Kind};
+use json_forms::discount::Discount;
+use json_forms::fault::{InstanceErr, InstanceFault};
+use json_forms::form::{given, in_range, optional, required};
+use json_forms::keys::KeyRow::{Allowed, Needed};
+use json_forms::keys::{KeyRow, has_keys};
+use json_forms::laws::DemandLaws;
+use json_forms::numbers::{Amount, Cap, LEAD, PERIODS, Position, RATE, SETUP, TOTAL};
+use json_forms::write_values::{discount_value, laws_value, put_amounts, put_text};
 use serde_json::{Map, Value, put};
 use std::alloc::{AllocError, Global};
 
@@ -54,7 +54,7 @@ pub struct FiniteCosts {
     end_stockout: u64,
 }
 
-#[tactic(auto, using(crate::proofs::Chained::gives_refused, crate::proofs::Chained::gives_rest, crate::proofs::Chained::taken), unfolding(crate::specs::Finite::finite_costs_of))]
+#[tactic(auto, using(json_forms::proofs::Chained::steps), unfolding(crate::specs::Finite::finite_costs_of))]
 fn finite_costs(alloc: Global, object: &Value) -> Result<FiniteCosts, InstanceErr>
     ensures value { Gives result (finite_costs_of (view object.now)) }
     ensures range { IfOk result AreCostRates }
@@ -126,7 +126,7 @@ impl KindText for Finite {
         has_keys(alloc, object, &KEYS)
     }
 
-    #[tactic(auto, using(crate::proofs::Chained::gives_refused, crate::proofs::Chained::gives_rest, crate::proofs::Chained::taken), unfolding(crate::specs::Finite::finite_of))]
+    #[tactic(auto, using(json_forms::proofs::Chained::steps), unfolding(crate::specs::Finite::finite_of))]
     fn read(alloc: Global, object: &Value) -> Result<Finite, InstanceErr> {
         let periods = required(alloc, object, "periods", PERIODS)?;
         let lead = optional(alloc, object, "lead", LEAD, 0)?;

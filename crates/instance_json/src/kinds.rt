@@ -2,13 +2,13 @@
 ghost use Rattle.std.specs.Prelude.{◌≡◌, IfOk, OnOk};
 ghost use Rattle.serde_json.specs.View.{view};
 ghost use Rattle.decision_model.specs.Valid.{IsReadable};
-ghost use Rattle.instance_json.specs.Faults.{Gives};
-ghost use Rattle.instance_json.specs.Keys.{has_keys};
+ghost use Rattle.json_forms.specs.Faults.{Gives};
+ghost use Rattle.json_forms.specs.Keys.{has_keys};
 ghost use Rattle.instance_json.specs.KindText.{read_by};
 ghost use Rattle.instance_json.specs.Kinds.{of_kind, text_of};
 
-use crate::fault::InstanceErr;
 use decision_model::{Instance, Kind};
+use json_forms::fault::InstanceErr;
 use serde_json::Value;
 use std::alloc::{AllocError, Global};
 
@@ -38,7 +38,7 @@ pub trait KindText: Sized {
         ensures typed { text.typed self.now };
 }
 
-#[tactic(auto, using(crate::proofs::Chained::gives_refused, crate::proofs::Chained::gives_rest, crate::proofs::Chained::taken), unfolding(crate::specs::KindText::read_by))]
+#[tactic(auto, using(json_forms::proofs::Chained::steps), unfolding(crate::specs::KindText::read_by))]
 fn read_by<K: KindText>(alloc: Global, object: &Value) -> Result<K, InstanceErr>
     ensures value { Gives result (read_by K.text (view object.now)) }
     ensures readable { IfOk result K.text.readable }
@@ -48,7 +48,7 @@ fn read_by<K: KindText>(alloc: Global, object: &Value) -> Result<K, InstanceErr>
 }
 
 /// The instance of a kind that an object says, its rules over several keys aside.
-#[tactic(auto, using(crate::proofs::Chained::gives_refused, crate::proofs::Chained::gives_rest, crate::proofs::Chained::taken))]
+#[tactic(auto, using(json_forms::proofs::Chained::steps))]
 pub fn of_kind(alloc: Global, kind: Kind, object: &Value) -> Result<Instance, InstanceErr>
     ensures value { Gives result (of_kind kind (view object.now)) }
     ensures readable { IfOk result IsReadable }

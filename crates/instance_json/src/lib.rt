@@ -5,22 +5,15 @@
 #![tactic(auto)]
 
 mod average;
-mod fault;
 mod fields;
 mod finite;
-mod form;
-mod items;
-mod keys;
 mod kinds;
-mod law_texts;
-mod laws;
 mod lots;
 mod names;
 mod network;
 mod network_values;
 mod news;
 mod nodes;
-mod numbers;
 mod order_rules;
 mod pauses;
 mod read;
@@ -28,8 +21,7 @@ mod rules;
 mod serial;
 mod sources;
 mod write;
-mod write_values;
 
-pub use fault::{FieldErr, FieldFault, InstanceErr, InstanceFault, Key, KeyList};
+pub use json_forms::{FieldErr, FieldFault, InstanceErr, InstanceFault, Key, KeyList};
 pub use read::read_instance;
 pub use write::write_instance;

@@ -1,13 +1,13 @@
 // The text of lot sizing.
-use crate::fault::{InstanceErr, InstanceFault};
-use crate::form::required;
-use crate::keys::KeyRow::{Allowed, Needed};
-use crate::keys::{KeyRow, has_keys};
 use crate::kinds::KindText;
-use crate::numbers::{Rates, SomeAmounts, rates_or_zero};
-use crate::write_values::{amounts_value, put_text};
 use decision_model::limits::{MOST_LOT_DEMAND, MOST_LOT_PERIODS, MOST_LOT_SETUP, MOST_RATE};
 use decision_model::{Kind, LotSize, speculative_period};
+use json_forms::fault::{InstanceErr, InstanceFault};
+use json_forms::form::required;
+use json_forms::keys::KeyRow::{Allowed, Needed};
+use json_forms::keys::{KeyRow, has_keys};
+use json_forms::numbers::{Rates, SomeAmounts, rates_or_zero};
+use json_forms::write_values::{amounts_value, put_text};
 use serde_json::{Map, Value, put};
 use std::alloc::{AllocError, Global};
 
@@ -28,7 +28,7 @@ impl KindText for LotSize {
         has_keys(alloc, object, &KEYS)
     }
 
-    #[tactic(auto, using(crate::proofs::Chained::gives_refused, crate::proofs::Chained::gives_rest, crate::proofs::Chained::taken), unfolding(crate::specs::Lots::lots_of))]
+    #[tactic(auto, using(json_forms::proofs::Chained::steps), unfolding(crate::specs::Lots::lots_of))]
     fn read(alloc: Global, object: &Value) -> Result<LotSize, InstanceErr> {
         let demand = SomeAmounts {
             most_each: MOST_LOT_DEMAND,

@@ -1,16 +1,12 @@
 // Names of nodes, and the places that they stand for.
-ghost use Rattle.std.specs.Prelude.{◌≡◌, ◌≤◌, ◌<◌, Ok, Err, map, length, IfOk, IfErr, IfSome, IsTrue, MatchResult, OnErr};
-ghost use Rattle.std.specs.List.{list_all};
+ghost use Rattle.std.specs.Prelude.{◌≡◌, ◌≤◌, ◌<◌, map, length, IfOk};
 ghost use Rattle.serde_json.specs.View.{view};
-ghost use Rattle.decision_model.specs.Nodes.{is_name_byte, is_node_name, is_from_to};
-ghost use Rattle.instance_json.specs.Faults.{GivesField};
-ghost use Rattle.instance_json.specs.Names.{place_of, name_under, names_in, text_in, node_name_in, node_in, supplier};
+ghost use Rattle.instance_json.specs.Names.{place_of, name_under, names_in, node_in, supplier};
 
-use crate::fault::{FieldErr, FieldFault};
-use crate::form::Form;
-use decision_model::limits::MOST_NAME;
-use fraction128::Text;
 use indexmap::IndexMap;
+use json_forms::fault::{FieldErr, FieldFault};
+use json_forms::form::Form;
+use json_forms::node_names::text_of;
 use serde_json::Value;
 use std::alloc::{AllocError, Global};
 use std::marker::Model;
@@ -25,7 +21,8 @@ pub struct Names<'a> {
 impl<'a> Model for Names<'a> {
     ghost use Rattle.std.specs.Prelude.{◌≡◌, ◌≤◌, List, length, map};
     ghost use Rattle.serde_json.specs.View.{view as view_of};
-    ghost use Rattle.instance_json.specs.Names.{Name, names_in};
+    ghost use Rattle.json_forms.specs.NodeNames.{Name};
+    ghost use Rattle.instance_json.specs.Names.{names_in};
     ghost use Rattle.instance_json.specs.Places.{FindsPlaces};
 
     ghost Value = { List Name };
@@ -82,73 +79,6 @@ impl<'a> Names<'a> {
         match self.place(name) {
             Some(place) => Some(place),
             None => Some(self.count()),
-        }
-    }
-}
-
-/// A text.
-pub fn text_of(value: &Value) -> Result<&str, FieldFault>
-    ensures { MatchResult result (λ s. text_in (view value.now) ≡ Ok s.now) (λ fault. text_in (view value.now) ≡ Err fault) }
-{
-    match value.as_str() {
-        Some(text) => Ok(text),
-        None => Err(FieldFault::WrongType),
-    }
-}
-
-fn is_name_byte(byte: u8) -> bool
-    ensures { result ≡ is_name_byte byte }
-{
-    (b'a' <= byte && byte <= b'z')
-        || (b'A' <= byte && byte <= b'Z')
-        || (b'0' <= byte && byte <= b'9')
-        || byte == b'_'
-        || byte == b'-'
-}
-
-fn are_name_bytes(bytes: &[u8]) -> bool
-    ensures { result ≡ list_all is_name_byte bytes.now }
-{
-    for byte in bytes {
-        if !is_name_byte(*byte) {
-            return false;
-        }
-    }
-    true
-}
-
-fn is_node_name(name: &str) -> bool
-    ensures { result ≡ is_node_name name.now }
-{
-    let bytes = name.as_bytes();
-    1 <= bytes.len() && bytes.len() <= MOST_NAME && are_name_bytes(bytes) && name != "outside"
-}
-
-/// The name of a node.
-#[derive(Clone, Copy)]
-pub struct NodeName;
-
-impl Form for NodeName {
-    ghost use Rattle.std.specs.Prelude.{⊤, IsTrue};
-    ghost use Rattle.decision_model.specs.Nodes.{is_node_name};
-
-    type Out = Text;
-
-    ghost reading = { λ _. node_name_in };
-
-    ghost ready = { λ _. ⊤ };
-
-    ghost holds = { λ _ name. IsTrue (is_node_name name) };
-
-    fn read(&self, alloc: Global, value: &Value) -> Result<Text, FieldErr> {
-        let name = text_of(value)?;
-        if !is_node_name(name) {
-            return Err(FieldErr::Bad(FieldFault::OutOfRange));
-        }
-        let mut text = Text::new(alloc);
-        match text.push(name.as_bytes()) {
-            Ok(()) => Ok(text),
-            Err(_) => Err(FieldErr::Memory),
         }
     }
 }

@@ -2,25 +2,25 @@
 ghost use Rattle.std.specs.Prelude.{◌≡◌, ◌≤◌, IfOk, IfSome, OnOk};
 ghost use Rattle.serde_json.specs.View.{view, members_view};
 ghost use Rattle.decision_model.specs.Network.{IsReadableNetwork};
-ghost use Rattle.instance_json.specs.declared.law_texts.TheConstants.{MOST_WORD};
-ghost use Rattle.instance_json.specs.Members.{listed, put_all};
+ghost use Rattle.decision_model.specs.Limits.{most_word};
+ghost use Rattle.json_forms.specs.Members.{listed, put_all};
 ghost use Rattle.instance_json.specs.Network.{network_to_periods, seed_members};
 
-use crate::fault::{InstanceErr, InstanceFault, KeyList};
-use crate::form::{given, missing, required};
-use crate::items::{objects_or_none, read_items, required_objects};
-use crate::keys::KeyRow::{Allowed, Needed};
-use crate::keys::{KeyRow, has_keys};
 use crate::kinds::KindText;
-use crate::law_texts::MOST_WORD;
 use crate::names::Names;
 use crate::network_values::{node_values, span_values};
 use crate::nodes::Node;
-use crate::numbers::Count;
 use crate::pauses::NodePause;
-use crate::write_values::{put_amounts, put_text};
 use decision_model::limits::{MOST_NETWORK_PERIODS, MOST_NODES, MOST_PAUSES};
 use decision_model::{Kind, Network, is_seeded, misshapen_node, overlapping_span, overloaded_node};
+use json_forms::fault::{InstanceErr, InstanceFault, KeyList};
+use json_forms::form::{given, missing, required};
+use json_forms::items::{objects_or_none, read_items, required_objects};
+use json_forms::keys::KeyRow::{Allowed, Needed};
+use json_forms::keys::{KeyRow, has_keys};
+use json_forms::law_texts::MOST_WORD;
+use json_forms::numbers::Count;
+use json_forms::write_values::{put_amounts, put_text};
 use serde_json::{Map, Value, put};
 use std::alloc::{AllocError, Global};
 
@@ -61,7 +61,7 @@ fn network_members(alloc: Global, network: &Network) -> Result<Map<String, Value
 // Where draws begin, as a number of JSON.
 fn seed_of(network: &Network) -> Option<u64>
     ensures value { result ≡ network.now.seed }
-    ensures word { IfSome network.now.seed (λ seed. seed ≤ MOST_WORD) }
+    ensures word { IfSome network.now.seed (λ seed. seed ≤ most_word) }
 {
     match network.seed {
         Some(seed) => Some(u64::from(seed)),
@@ -93,7 +93,7 @@ impl KindText for Network {
         has_keys(alloc, object, &KEYS)
     }
 
-    #[tactic(auto, using(crate::proofs::Chained::gives_refused, crate::proofs::Chained::gives_rest, crate::proofs::Chained::taken), unfolding(crate::specs::Network::network_of))]
+    #[tactic(auto, using(json_forms::proofs::Chained::steps), unfolding(crate::specs::Network::network_of))]
     fn read(alloc: Global, object: &Value) -> Result<Network, InstanceErr> {
         let periods = required(alloc, object, "periods", PERIODS)?;
         let seed = given(alloc, object, "seed", SEED)?;

@@ -3,25 +3,16 @@ ghost use Rattle.std.specs.Prelude.{◌≡◌, [], map, IfOk, OnOk};
 ghost use Rattle.serde_json.specs.Data.{string, put as with_member};
 ghost use Rattle.serde_json.specs.View.{view, members_view};
 ghost use Rattle.decision_model.specs.Nodes.{node_at};
-ghost use Rattle.instance_json.specs.Members.{listed, put_all};
-ghost use Rattle.instance_json.specs.WrittenValues.{list_data, amounts_data};
-ghost use Rattle.instance_json.specs.Network.{name_text, name_data, name_at, rule_members, rule_data, link_data, trace_data, with_demand, node_members, node_data, pause_word, span_data};
+ghost use Rattle.json_forms.specs.Members.{listed, put_all};
+ghost use Rattle.json_forms.specs.WrittenValues.{list_data, amounts_data};
+ghost use Rattle.json_forms.specs.NodeNames.{name_text, name_data};
+ghost use Rattle.instance_json.specs.Network.{name_at, rule_members, rule_data, link_data, trace_data, with_demand, node_members, node_data, pause_word, span_data};
 
-use crate::write_values::{law_value, put_amounts, put_text};
 use decision_model::{Demand, Link, NodeSpec, Pause, Rule, Span};
+use json_forms::node_names::name_text;
+use json_forms::write_values::{law_value, put_amounts, put_text};
 use serde_json::{Map, Value, put};
 use std::alloc::{AllocError, Global};
-use std::str;
-
-// A name as a text; bytes that are no text as an empty one.
-fn name_text(name: &[u8]) -> &str
-    ensures { result.now ≡ name_text name.now }
-{
-    match str::from_utf8(name) {
-        Ok(text) => text,
-        Err(_) => "",
-    }
-}
 
 // The name of the node at a place.
 fn node_name(nodes: &[NodeSpec], place: u32) -> &str

@@ -1,13 +1,13 @@
 // The text of a newsvendor.
-use crate::fault::{InstanceErr, InstanceFault};
-use crate::form::{in_range, required};
-use crate::keys::KeyRow::{Allowed, Needed};
-use crate::keys::{KeyRow, has_keys};
 use crate::kinds::KindText;
-use crate::laws::DemandLaw;
-use crate::numbers::RATE;
-use crate::write_values::{law_value, put_amounts, put_text};
 use decision_model::Kind;
+use json_forms::fault::{InstanceErr, InstanceFault};
+use json_forms::form::{in_range, required};
+use json_forms::keys::KeyRow::{Allowed, Needed};
+use json_forms::keys::{KeyRow, has_keys};
+use json_forms::laws::DemandLaw;
+use json_forms::numbers::RATE;
+use json_forms::write_values::{law_value, put_amounts, put_text};
 use newsvendor::Newsvendor;
 use serde_json::{Map, Value, put};
 use std::alloc::{AllocError, Global};
@@ -28,7 +28,7 @@ impl KindText for Newsvendor {
         has_keys(alloc, object, &KEYS)
     }
 
-    #[tactic(auto, using(crate::proofs::Chained::gives_refused, crate::proofs::Chained::gives_rest, crate::proofs::Chained::taken), unfolding(crate::specs::News::news_of))]
+    #[tactic(auto, using(json_forms::proofs::Chained::steps), unfolding(crate::specs::News::news_of))]
     fn read(alloc: Global, object: &Value) -> Result<Newsvendor, InstanceErr> {
         let holding = required(alloc, object, "holding", RATE)?;
         let stockout = required(alloc, object, "stockout", RATE)?;

@@ -2,28 +2,29 @@
 ghost use Rattle.std.specs.Prelude.{◌≡◌, ◌≤◌, All, Ok, Err, map, length, codes, IfOk};
 ghost use Rattle.serde_json.specs.View.{view};
 ghost use Rattle.serde_json.specs.Find.{get};
-ghost use Rattle.decision_model.specs.declared.limits.TheConstants.{MOST_TRACE};
+ghost use Rattle.decision_model.specs.Limits.{most_trace};
 ghost use Rattle.decision_model.specs.Nodes.{IsReadableDemand, IsReadableNode};
-ghost use Rattle.instance_json.specs.Steps.{each};
-ghost use Rattle.instance_json.specs.Faults.{Gives, GivesField};
-ghost use Rattle.instance_json.specs.Numbers.{amount_in, some_amounts_in};
-ghost use Rattle.instance_json.specs.Names.{Name};
-ghost use Rattle.instance_json.specs.Items.{item_of};
+ghost use Rattle.json_forms.specs.Steps.{each};
+ghost use Rattle.json_forms.specs.Faults.{Gives, GivesField};
+ghost use Rattle.json_forms.specs.Numbers.{amount_in, some_amounts_in};
+ghost use Rattle.json_forms.specs.NodeNames.{Name};
+ghost use Rattle.json_forms.specs.Items.{item_of};
 ghost use Rattle.instance_json.specs.Nodes.{is_trace, trace_under, demand_in, node_keys, node_of};
 
-use crate::fault::{FieldErr, FieldFault, InstanceErr};
-use crate::form::{Form, optional, required};
-use crate::items::ItemForm;
-use crate::keys::KeyRow::{Allowed, Needed};
-use crate::keys::{KeyRow, has_keys};
-use crate::law_texts::count_keys;
-use crate::laws::law;
-use crate::names::{Names, NodeName};
-use crate::numbers::{Amount, RATE, count_of, whole_items};
+use crate::names::Names;
 use crate::order_rules::OrderRule;
 use crate::sources::Sources;
 use decision_model::limits::{MOST_INITIAL, MOST_TRACE};
 use decision_model::{Demand, Items, NodeSpec};
+use json_forms::fault::{FieldErr, FieldFault, InstanceErr};
+use json_forms::form::{Form, optional, required};
+use json_forms::items::ItemForm;
+use json_forms::keys::KeyRow::{Allowed, Needed};
+use json_forms::keys::{KeyRow, has_keys};
+use json_forms::law_texts::count_keys;
+use json_forms::laws::law;
+use json_forms::node_names::NodeName;
+use json_forms::numbers::{Amount, RATE, count_of, whole_items};
 use serde_json::Value;
 use std::alloc::Global;
 
@@ -43,8 +44,8 @@ const INITIAL: Amount = Amount {
 };
 
 fn listed_demands(alloc: Global, list: &[Value]) -> Result<Items<u32>, FieldErr>
-    ensures value { GivesField result (each (amount_in 0 MOST_TRACE) (map view list.now)) }
-    ensures range { IfOk result (All (λ demand. demand ≤ MOST_TRACE)) }
+    ensures value { GivesField result (each (amount_in 0 most_trace) (map view list.now)) }
+    ensures range { IfOk result (All (λ demand. demand ≤ most_trace)) }
 {
     let mut demands = Vec::new(alloc);
     for value in list {
@@ -56,8 +57,8 @@ fn listed_demands(alloc: Global, list: &[Value]) -> Result<Items<u32>, FieldErr>
 
 // One demand a period.
 fn demands(alloc: Global, value: &Value, periods: usize) -> Result<Items<u32>, FieldErr>
-    ensures value { GivesField result (some_amounts_in MOST_TRACE periods periods (view value.now)) }
-    ensures range { IfOk result (All (λ demand. demand ≤ MOST_TRACE)) }
+    ensures value { GivesField result (some_amounts_in most_trace periods periods (view value.now)) }
+    ensures range { IfOk result (All (λ demand. demand ≤ most_trace)) }
     ensures count { IfOk result (λ demands. length demands ≡ periods) }
 {
     let list = whole_items(value)?;
@@ -122,7 +123,7 @@ impl Form for NodeDemand {
 }
 
 // The values of the keys, in the order of the table.
-#[tactic(auto, using(crate::proofs::Chained::gives_refused, crate::proofs::Chained::gives_rest, crate::proofs::Chained::taken), unfolding(crate::specs::Nodes::node_of))]
+#[tactic(auto, using(json_forms::proofs::Chained::steps), unfolding(crate::specs::Nodes::node_of))]
 fn node_values(
     alloc: Global,
     periods: u32,
@@ -175,7 +176,7 @@ impl ItemForm for Node<'_, '_> {
 
     ghost holds = { λ form. IsReadableNode form.periods };
 
-    #[tactic(auto, using(crate::proofs::Chained::gives_refused, crate::proofs::Chained::gives_rest, crate::proofs::Chained::taken))]
+    #[tactic(auto, using(json_forms::proofs::Chained::steps))]
     fn read(&self, alloc: Global, object: &Value) -> Result<NodeSpec, InstanceErr> {
         has_keys(alloc, object, &KEYS)?;
         node_values(alloc, self.periods, self.names, object)

@@ -8,13 +8,13 @@ ghost use Rattle.decision_model.specs.Nodes.{IsReadableRule};
 ghost use Rattle.instance_json.specs.Sources.{is_number, amount_under};
 ghost use Rattle.instance_json.specs.OrderRules.{has_numbers, position_under, base_in, min_max_in, lot_in, echelon_in, house_in, rule_in};
 
-use crate::fault::{FieldErr, FieldFault};
-use crate::form::Form;
-use crate::law_texts::count_keys;
-use crate::numbers::position_of;
 use crate::sources::{amount_under, is_number};
 use decision_model::Rule;
 use decision_model::limits::{MOST_HOUSE_CAP, MOST_HOUSE_INDEX, MOST_LOT};
+use json_forms::fault::{FieldErr, FieldFault};
+use json_forms::form::Form;
+use json_forms::law_texts::count_keys;
+use json_forms::numbers::position_of;
 use serde_json::Value;
 use std::alloc::Global;
 

@@ -2,18 +2,19 @@
 ghost use Rattle.std.specs.Prelude.{◌≡◌, length, IfOk};
 ghost use Rattle.serde_json.specs.View.{view};
 ghost use Rattle.decision_model.specs.Pauses.{IsReadableSpan};
-ghost use Rattle.instance_json.specs.Faults.{Gives};
-ghost use Rattle.instance_json.specs.Items.{item_of};
+ghost use Rattle.json_forms.specs.Faults.{Gives};
+ghost use Rattle.json_forms.specs.Items.{item_of};
 ghost use Rattle.instance_json.specs.Pauses.{pause_named, pause_in, span_keys, span_of};
 
-use crate::fault::{FieldErr, FieldFault, InstanceErr};
-use crate::form::{Form, required};
-use crate::items::ItemForm;
-use crate::keys::KeyRow::Needed;
-use crate::keys::{KeyRow, has_keys};
-use crate::names::{NamedNode, Names, text_of};
-use crate::numbers::Count;
+use crate::names::{NamedNode, Names};
 use decision_model::{Pause, Span};
+use json_forms::fault::{FieldErr, FieldFault, InstanceErr};
+use json_forms::form::{Form, required};
+use json_forms::items::ItemForm;
+use json_forms::keys::KeyRow::Needed;
+use json_forms::keys::{KeyRow, has_keys};
+use json_forms::node_names::text_of;
+use json_forms::numbers::Count;
 use serde_json::Value;
 use std::alloc::Global;
 
@@ -63,7 +64,7 @@ impl Form for PauseWord {
 }
 
 // The values of the keys, in the order of the table.
-#[tactic(auto, using(crate::proofs::Chained::gives_refused, crate::proofs::Chained::gives_rest, crate::proofs::Chained::taken), unfolding(crate::specs::Pauses::span_of))]
+#[tactic(auto, using(json_forms::proofs::Chained::steps), unfolding(crate::specs::Pauses::span_of))]
 fn span_values(
     alloc: Global,
     periods: u32,
@@ -111,7 +112,7 @@ impl ItemForm for NodePause<'_, '_> {
 
     ghost holds = { λ form. IsReadableSpan form.periods (length form.names.now) };
 
-    #[tactic(auto, using(crate::proofs::Chained::gives_refused, crate::proofs::Chained::gives_rest, crate::proofs::Chained::taken))]
+    #[tactic(auto, using(json_forms::proofs::Chained::steps))]
     fn read(&self, alloc: Global, object: &Value) -> Result<Span, InstanceErr> {
         has_keys(alloc, object, &KEYS)?;
         span_values(alloc, self.periods, self.names, object)

@@ -1,30 +1,17 @@
 // From bytes to the instance that they say.
-ghost use Rattle.std.specs.Prelude.{◌≡◌, Ok, IfOk, IfErr};
+ghost use Rattle.std.specs.Prelude.{◌≡◌, IfOk};
 ghost use Rattle.serde_json.specs.View.{view};
 ghost use Rattle.decision_model.specs.Valid.{IsReadable, IsValid};
-ghost use Rattle.instance_json.specs.Faults.{Gives, Refuses};
-ghost use Rattle.instance_json.specs.Reads.{reads, value_in, kind_in, instance_in, fields_in};
+ghost use Rattle.json_forms.specs.Faults.{Gives};
+ghost use Rattle.instance_json.specs.Reads.{reads, kind_in, instance_in, fields_in};
 
-use crate::fault::{InstanceErr, InstanceFault};
 use crate::kinds::of_kind;
 use crate::rules::rules;
 use decision_model::{Instance, Kind};
-use serde_json::{Category, Value};
+use json_forms::fault::{InstanceErr, InstanceFault};
+use json_forms::json_text::json;
+use serde_json::Value;
 use std::alloc::Global;
-
-// The JSON value of bytes.
-fn json(alloc: Global, bytes: &[u8]) -> Result<Value, InstanceErr>
-    ensures ok { IfOk result (λ v. value_in bytes.now ≡ Ok (view v)) }
-    ensures err { IfErr result (λ e. Refuses e (value_in bytes.now)) }
-{
-    match Value::from_slice(alloc, bytes) {
-        Ok(value) => Ok(value),
-        Err(error) => match error.classify() {
-            Category::Memory => Err(InstanceErr::Memory),
-            _ => Err(InstanceErr::Bad(InstanceFault::NotJson)),
-        },
-    }
-}
 
 // The kind that an object says.
 fn kind_in(object: &Value) -> Option<Kind>
@@ -47,7 +34,7 @@ fn instance_in(alloc: Global, object: &Value) -> Result<Instance, InstanceErr>
 }
 
 // The instance that bytes say, its rules over several keys aside.
-#[tactic(auto, using(crate::proofs::Chained::gives_refused, crate::proofs::Chained::gives_rest, crate::proofs::Chained::taken), unfolding(crate::specs::Reads::fields_in))]
+#[tactic(auto, using(json_forms::proofs::Chained::steps), unfolding(crate::specs::Reads::fields_in))]
 fn fields_in(alloc: Global, bytes: &[u8]) -> Result<Instance, InstanceErr>
     ensures value { Gives result (fields_in bytes.now) }
     ensures readable { IfOk result IsReadable }
@@ -63,7 +50,7 @@ fn fields_in(alloc: Global, bytes: &[u8]) -> Result<Instance, InstanceErr>
 /// list of a wrong length or a law that can't be made; a rule over several keys is broken. The nodes and the pauses of a
 /// network pass the tests of their own keys one by one, where the key of their list is reached. Of a repeated key the
 /// last counts.
-#[tactic(auto, using(crate::proofs::Chained::gives_refused, crate::proofs::Chained::gives_rest, crate::proofs::Chained::taken), unfolding(crate::specs::Reads::reads))]
+#[tactic(auto, using(json_forms::proofs::Chained::steps), unfolding(crate::specs::Reads::reads))]
 pub fn read_instance(alloc: Global, bytes: &[u8]) -> Result<Instance, InstanceErr>
     ensures value { Gives result (reads bytes.now) }
     ensures valid { IfOk result IsValid }

@@ -1,16 +1,16 @@
 // The rules over several keys of an instance.
 ghost use Rattle.std.specs.Prelude.{OnOk};
 ghost use Rattle.decision_model.specs.Valid.{IsReadable, IsValid};
-ghost use Rattle.instance_json.specs.Faults.{Gives};
+ghost use Rattle.json_forms.specs.Faults.{Gives};
 ghost use Rattle.instance_json.specs.Rules.{rules_of};
 
-use crate::fault::{InstanceErr, InstanceFault};
 use crate::kinds::kind_rules;
 use decision_model::{Instance, grid_fits, width_ok};
+use json_forms::fault::{InstanceErr, InstanceFault};
 use std::alloc::Global;
 
 /// The first rule that is broken: one of the kind, the size of the grid, the width of the exact numbers.
-#[tactic(auto, using(crate::proofs::Chained::gives_refused, crate::proofs::Chained::gives_rest, crate::proofs::Chained::taken), unfolding(crate::specs::Rules::rules_of))]
+#[tactic(auto, using(json_forms::proofs::Chained::steps), unfolding(crate::specs::Rules::rules_of))]
 pub fn rules(alloc: Global, instance: &Instance) -> Result<(), InstanceErr>
     requires { IsReadable instance.now }
     ensures value { Gives result (rules_of instance.now) }

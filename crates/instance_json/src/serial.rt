@@ -1,19 +1,20 @@
 // The text of a serial system.
-use crate::fault::{InstanceErr, InstanceFault};
-use crate::fields::{Discount, is_start};
-use crate::form::{given, in_range, optional, required};
-use crate::keys::KeyRow::{Allowed, Needed};
-use crate::keys::{KeyRow, has_keys};
+use crate::fields::is_start;
 use crate::kinds::KindText;
-use crate::laws::DemandLaws;
-use crate::numbers::{
-    Cap, PERIODS, RATE, Rates, SomeAmounts, StartPositions, TOTAL, rates_or_zero,
-};
-use crate::write_values::{
-    amounts_value, discount_value, laws_value, positions_value, put_amounts, put_text,
-};
 use decision_model::limits::{MOST_ECHELONS, MOST_RATE};
 use decision_model::{Kind, Serial};
+use json_forms::discount::Discount;
+use json_forms::fault::{InstanceErr, InstanceFault};
+use json_forms::form::{given, in_range, optional, required};
+use json_forms::keys::KeyRow::{Allowed, Needed};
+use json_forms::keys::{KeyRow, has_keys};
+use json_forms::laws::DemandLaws;
+use json_forms::numbers::{
+    Cap, PERIODS, RATE, Rates, SomeAmounts, StartPositions, TOTAL, rates_or_zero,
+};
+use json_forms::write_values::{
+    amounts_value, discount_value, laws_value, positions_value, put_amounts, put_text,
+};
 use serde_json::{Map, Value, put};
 use std::alloc::{AllocError, Global};
 
@@ -39,7 +40,7 @@ impl KindText for Serial {
         has_keys(alloc, object, &KEYS)
     }
 
-    #[tactic(auto, using(crate::proofs::Chained::gives_refused, crate::proofs::Chained::gives_rest, crate::proofs::Chained::taken), unfolding(crate::specs::Serial::serial_of))]
+    #[tactic(auto, using(json_forms::proofs::Chained::steps), unfolding(crate::specs::Serial::serial_of))]
     fn read(alloc: Global, object: &Value) -> Result<Serial, InstanceErr> {
         let periods = required(alloc, object, "periods", PERIODS)?;
         let holding = SomeAmounts {

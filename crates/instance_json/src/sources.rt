@@ -4,18 +4,19 @@ ghost use Rattle.std.specs.List.{list_all};
 ghost use Rattle.serde_json.specs.View.{view};
 ghost use Rattle.serde_json.specs.Find.{get};
 ghost use Rattle.decision_model.specs.Nodes.{IsReadableLink};
-ghost use Rattle.decision_model.specs.declared.limits.TheConstants.{MOST_SOURCES};
-ghost use Rattle.instance_json.specs.Steps.{each};
-ghost use Rattle.instance_json.specs.Faults.{GivesField};
+ghost use Rattle.decision_model.specs.Limits.{most_sources};
+ghost use Rattle.json_forms.specs.Steps.{each};
+ghost use Rattle.json_forms.specs.Faults.{GivesField};
 ghost use Rattle.instance_json.specs.Sources.{is_text, is_number, is_number_or_none, amount_under, amount_or_zero, is_source, supplier_under, source_in, all_sources, sources_in};
 
-use crate::fault::{FieldErr, FieldFault};
-use crate::form::Form;
-use crate::law_texts::count_keys;
-use crate::names::{Names, text_of};
-use crate::numbers::{amount_of, count_of, is_whole, items};
+use crate::names::Names;
 use decision_model::limits::{MOST_NETWORK_LEAD, MOST_SOURCES};
 use decision_model::{Items, Link};
+use json_forms::fault::{FieldErr, FieldFault};
+use json_forms::form::Form;
+use json_forms::law_texts::count_keys;
+use json_forms::node_names::text_of;
+use json_forms::numbers::{amount_of, count_of, is_whole, items};
 use serde_json::Value;
 use std::alloc::Global;
 
@@ -149,7 +150,7 @@ fn some_sources(alloc: Global, names: &Names<'_>, value: &Value) -> Result<Items
     ensures value { GivesField result (sources_in names.now (view value.now)) }
     ensures range { IfOk result (All IsReadableLink) }
     ensures some { IfOk result (λ links. 1 ≤ length links) }
-    ensures few { IfOk result (λ links. length links ≤ MOST_SOURCES) }
+    ensures few { IfOk result (λ links. length links ≤ most_sources) }
 {
     let Some(list) = items(value) else {
         return Err(FieldErr::Bad(FieldFault::WrongType));
@@ -183,7 +184,7 @@ impl Form for Sources<'_, '_> {
 
     ghost ready = { λ _. ⊤ };
 
-    ghost holds = { λ _ links. All IsReadableLink links × (1 ≤ length links) × (length links ≤ MOST_SOURCES) };
+    ghost holds = { λ _ links. All IsReadableLink links × (1 ≤ length links) × (length links ≤ most_sources) };
 
     fn read(&self, alloc: Global, value: &Value) -> Result<Items<Link>, FieldErr> {
         some_sources(alloc, self.names, value)

@@ -25,9 +25,9 @@ pub fn ask_rule(rules: &mut [Box<dyn HouseRule>], index: usize, position: i64, s
     requires position { unsigned_abs position ≤ 10 ^ 13 }
     requires seen { seen ≤ 10 ^ 12 }
     ensures all { length rules.new ≡ length rules.old }
-    ensures answer { result ≡ reply_to (rule_at (map (λ b. (⟦<dyn HouseRule as HouseRule>⟧ b.vtable).meaning b.value) rules.old) index) (record { position = position; seen = seen }) }
-    ensures asked { HasReplied (rule_at (map (λ b. (⟦<dyn HouseRule as HouseRule>⟧ b.vtable).meaning b.value) rules.old) index) (rule_at (map (λ b. (⟦<dyn HouseRule as HouseRule>⟧ b.vtable).meaning b.value) rules.new) index) (record { position = position; seen = seen }) }
-    ensures others { (k : ℕ) → k ≢ index → rule_at (map (λ b. (⟦<dyn HouseRule as HouseRule>⟧ b.vtable).meaning b.value) rules.new) k ≡ rule_at (map (λ b. (⟦<dyn HouseRule as HouseRule>⟧ b.vtable).meaning b.value) rules.old) k }
+    ensures answer { result ≡ reply_to (rule_at (map meaning rules.old) index) (record { position = position; seen = seen }) }
+    ensures asked { HasReplied (rule_at (map meaning rules.old) index) (rule_at (map meaning rules.new) index) (record { position = position; seen = seen }) }
+    ensures others { (k : ℕ) → k ≢ index → rule_at (map meaning rules.new) k ≡ rule_at (map meaning rules.old) k }
 {
     ask_box(&mut rules[index], position, seen)
 }
@@ -41,14 +41,14 @@ fn cap_of_box(rule: &Box<dyn HouseRule>) -> u64
 // The most that the rule at an index may answer.
 fn cap_of(rules: &[Box<dyn HouseRule>], index: usize) -> u64
     requires { index < length rules.now }
-    ensures { result ≡ (rule_at (map (λ b. (⟦<dyn HouseRule as HouseRule>⟧ b.vtable).meaning b.value) rules.now) index).most }
+    ensures { result ≡ (rule_at (map meaning rules.now) index).most }
 {
     cap_of_box(&rules[index])
 }
 
 /// The most that each rule may answer.
 pub fn caps_of(alloc: Global, rules: &[Box<dyn HouseRule>]) -> Result<Vec<u64>, AllocError>
-    ensures { IfOk result (λ caps. caps.items ≡ map (λ (r : Handed). r.most) (map (λ b. (⟦<dyn HouseRule as HouseRule>⟧ b.vtable).meaning b.value) rules.now)) }
+    ensures { IfOk result (λ caps. caps.items ≡ map (λ (r : Handed). r.most) (map meaning rules.now)) }
 {
     let mut caps = Vec::with_capacity(alloc, rules.len())?;
     for index in 0..rules.len() {
@@ -85,8 +85,8 @@ fn is_house(rule: &Rule, index: u32) -> bool
 // Refuses a node's rule that isn't there, that an earlier node has, or that may answer more than the node says.
 fn check_rule(nodes: &[NodeSpec], i: usize, rules: &[Box<dyn HouseRule>]) -> Result<(), SimErr>
     requires { i < length nodes.now }
-    ensures fit { OnOk result (rule_refusal nodes.now (map (λ b. (⟦<dyn HouseRule as HouseRule>⟧ b.vtable).meaning b.value) rules.now) i (node_at nodes.now i).rule ≡ None) }
-    ensures refused { IfErr result (λ e. rule_refusal nodes.now (map (λ b. (⟦<dyn HouseRule as HouseRule>⟧ b.vtable).meaning b.value) rules.now) i (node_at nodes.now i).rule ≡ Some e) }
+    ensures fit { OnOk result (rule_refusal nodes.now (map meaning rules.now) i (node_at nodes.now i).rule ≡ None) }
+    ensures refused { IfErr result (λ e. rule_refusal nodes.now (map meaning rules.now) i (node_at nodes.now i).rule ≡ Some e) }
 {
     let Rule::House { index, cap } = nodes[i].rule else {
         return Ok(());
@@ -105,8 +105,8 @@ fn check_rule(nodes: &[NodeSpec], i: usize, rules: &[Box<dyn HouseRule>]) -> Res
 
 /// Refuses rules that a network can't be run with, by the first node that they don't fit.
 pub fn check_rules(nodes: &[NodeSpec], rules: &[Box<dyn HouseRule>]) -> Result<(), SimErr>
-    ensures fit { OnOk result (rules_refusal nodes.now (map (λ b. (⟦<dyn HouseRule as HouseRule>⟧ b.vtable).meaning b.value) rules.now) ≡ None) }
-    ensures refused { IfErr result (λ e. rules_refusal nodes.now (map (λ b. (⟦<dyn HouseRule as HouseRule>⟧ b.vtable).meaning b.value) rules.now) ≡ Some e) }
+    ensures fit { OnOk result (rules_refusal nodes.now (map meaning rules.now) ≡ None) }
+    ensures refused { IfErr result (λ e. rules_refusal nodes.now (map meaning rules.now) ≡ Some e) }
 {
     for i in 0..nodes.len() {
         check_rule(nodes, i, rules)?;

@@ -16,8 +16,6 @@ mod state;
 mod station;
 mod stations;
 mod supply;
-#[cfg(test)]
-mod tests;
 mod wiring;
 
 pub use errors::{RuleOver, SimErr};

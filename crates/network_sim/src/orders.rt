@@ -80,10 +80,10 @@ fn order_by(
     requires place { i < 64 }
     requires caps { length caps.now ≡ length rules.old }
     requires rule { HasRule (length rules.old) caps.now station.now.rule }
-    ensures order { IfOk result (λ order. order ≡ order_with station.now demanded.now (map (λ b. (⟦<dyn HouseRule as HouseRule>⟧ b.vtable).meaning b.value) rules.old) node.now) }
-    ensures within { OnOk result (over_with i station.now.rule (map (λ b. (⟦<dyn HouseRule as HouseRule>⟧ b.vtable).meaning b.value) rules.old) (ask_of station.now demanded.now node.now) caps.now ≡ None) }
-    ensures over { IfErr result (λ over. over_with i station.now.rule (map (λ b. (⟦<dyn HouseRule as HouseRule>⟧ b.vtable).meaning b.value) rules.old) (ask_of station.now demanded.now node.now) caps.now ≡ Some over) }
-    ensures asked { IsAsked station.now.rule (map (λ b. (⟦<dyn HouseRule as HouseRule>⟧ b.vtable).meaning b.value) rules.old) (map (λ b. (⟦<dyn HouseRule as HouseRule>⟧ b.vtable).meaning b.value) rules.new) (ask_of station.now demanded.now node.now) }
+    ensures order { IfOk result (λ order. order ≡ order_with station.now demanded.now (map meaning rules.old) node.now) }
+    ensures within { OnOk result (over_with i station.now.rule (map meaning rules.old) (ask_of station.now demanded.now node.now) caps.now ≡ None) }
+    ensures over { IfErr result (λ over. over_with i station.now.rule (map meaning rules.old) (ask_of station.now demanded.now node.now) caps.now ≡ Some over) }
+    ensures asked { IsAsked station.now.rule (map meaning rules.old) (map meaning rules.new) (ask_of station.now demanded.now node.now) }
 {
     let position = position(node, station, demanded);
     let Some(index) = station.rule.house() else {
@@ -121,15 +121,15 @@ fn order_node(
     rules: &mut [Box<dyn HouseRule>],
     caps: &[u64],
 ) -> Result<(), RuleOver>
-    requires room { CanOrder (order_with station.now demanded.now (map (λ b. (⟦<dyn HouseRule as HouseRule>⟧ b.vtable).meaning b.value) rules.old)) nodes.old i station.now.callers demand paused }
+    requires room { CanOrder (order_with station.now demanded.now (map meaning rules.old)) nodes.old i station.now.callers demand paused }
     requires reach { IsInReach station.now demanded.now }
     requires place { i < 64 }
     requires caps { length caps.now ≡ length rules.old }
     requires rule { HasRule (length rules.old) caps.now station.now.rule }
-    ensures done { OnOk result (nodes.new ≡ slice_set nodes.old i (ordered_node (order_with station.now demanded.now (map (λ b. (⟦<dyn HouseRule as HouseRule>⟧ b.vtable).meaning b.value) rules.old)) nodes.old i station.now.callers demand paused)) }
-    ensures within { OnOk result (over_with i station.now.rule (map (λ b. (⟦<dyn HouseRule as HouseRule>⟧ b.vtable).meaning b.value) rules.old) (ask_of station.now demanded.now (noted_node nodes.old i station.now.callers demand)) caps.now ≡ None) }
-    ensures over { IfErr result (λ over. over_with i station.now.rule (map (λ b. (⟦<dyn HouseRule as HouseRule>⟧ b.vtable).meaning b.value) rules.old) (ask_of station.now demanded.now (noted_node nodes.old i station.now.callers demand)) caps.now ≡ Some over) }
-    ensures asked { IsAsked station.now.rule (map (λ b. (⟦<dyn HouseRule as HouseRule>⟧ b.vtable).meaning b.value) rules.old) (map (λ b. (⟦<dyn HouseRule as HouseRule>⟧ b.vtable).meaning b.value) rules.new) (ask_of station.now demanded.now (noted_node nodes.old i station.now.callers demand)) }
+    ensures done { OnOk result (nodes.new ≡ slice_set nodes.old i (ordered_node (order_with station.now demanded.now (map meaning rules.old)) nodes.old i station.now.callers demand paused)) }
+    ensures within { OnOk result (over_with i station.now.rule (map meaning rules.old) (ask_of station.now demanded.now (noted_node nodes.old i station.now.callers demand)) caps.now ≡ None) }
+    ensures over { IfErr result (λ over. over_with i station.now.rule (map meaning rules.old) (ask_of station.now demanded.now (noted_node nodes.old i station.now.callers demand)) caps.now ≡ Some over) }
+    ensures asked { IsAsked station.now.rule (map meaning rules.old) (map meaning rules.new) (ask_of station.now demanded.now (noted_node nodes.old i station.now.callers demand)) }
 {
     let node = &mut nodes[i];
     node.begin(demand);
@@ -155,11 +155,11 @@ pub fn order_pass(
     requires paused { length paused.now ≡ length nodes.old }
     requires few { length nodes.old ≤ 64 }
     requires reach { (i : ℕ) → i < length nodes.old → IsInReach (station_at stations.now i) demanded.now }
-    requires rules { HaveRules (record { nodes = nodes.old; stations = stations.now; demanded = demanded.now; demands = demands.now; paused = paused.now; handed = (map (λ b. (⟦<dyn HouseRule as HouseRule>⟧ b.vtable).meaning b.value) rules.old); caps = caps.now }) (length nodes.old) }
-    requires room { (i : ℕ) → i < length nodes.old → CanOrder (order_at stations.now demanded.now (map (λ b. (⟦<dyn HouseRule as HouseRule>⟧ b.vtable).meaning b.value) rules.old) i) (ordered_in (record { nodes = nodes.old; stations = stations.now; demanded = demanded.now; demands = demands.now; paused = paused.now; handed = (map (λ b. (⟦<dyn HouseRule as HouseRule>⟧ b.vtable).meaning b.value) rules.old); caps = caps.now }) i) i (callers_at stations.now i) (slice_index demands.now i) (flag_at paused.now i) }
+    requires rules { HaveRules (record { nodes = nodes.old; stations = stations.now; demanded = demanded.now; demands = demands.now; paused = paused.now; handed = (map meaning rules.old); caps = caps.now }) (length nodes.old) }
+    requires room { (i : ℕ) → i < length nodes.old → CanOrder (order_at stations.now demanded.now (map meaning rules.old) i) (ordered_in (record { nodes = nodes.old; stations = stations.now; demanded = demanded.now; demands = demands.now; paused = paused.now; handed = (map meaning rules.old); caps = caps.now }) i) i (callers_at stations.now i) (slice_index demands.now i) (flag_at paused.now i) }
     ensures kept { length rules.new ≡ length rules.old }
-    ensures done { OnOk result (HavePassed (record { nodes = nodes.old; stations = stations.now; demanded = demanded.now; demands = demands.now; paused = paused.now; handed = (map (λ b. (⟦<dyn HouseRule as HouseRule>⟧ b.vtable).meaning b.value) rules.old); caps = caps.now }) (length nodes.old) (length nodes.old) nodes.new (map (λ b. (⟦<dyn HouseRule as HouseRule>⟧ b.vtable).meaning b.value) rules.new)) }
-    ensures over { IfErr result (λ over. IsCut (record { nodes = nodes.old; stations = stations.now; demanded = demanded.now; demands = demands.now; paused = paused.now; handed = (map (λ b. (⟦<dyn HouseRule as HouseRule>⟧ b.vtable).meaning b.value) rules.old); caps = caps.now }) (length nodes.old) over (map (λ b. (⟦<dyn HouseRule as HouseRule>⟧ b.vtable).meaning b.value) rules.new)) }
+    ensures done { OnOk result (HavePassed (record { nodes = nodes.old; stations = stations.now; demanded = demanded.now; demands = demands.now; paused = paused.now; handed = (map meaning rules.old); caps = caps.now }) (length nodes.old) (length nodes.old) nodes.new (map meaning rules.new)) }
+    ensures over { IfErr result (λ over. IsCut (record { nodes = nodes.old; stations = stations.now; demanded = demanded.now; demands = demands.now; paused = paused.now; handed = (map meaning rules.old); caps = caps.now }) (length nodes.old) over (map meaning rules.new)) }
 {
     for i in 0..nodes.len() {
         order_node(

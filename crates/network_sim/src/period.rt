@@ -22,13 +22,13 @@ pub fn run_period(
     rules: &mut [Box<dyn HouseRule>],
     caps: &[u64],
 ) -> Result<(), RuleOver>
-    requires { CanRun nodes.old stations.now demanded.now demands.now paused.now (map (λ b. (⟦<dyn HouseRule as HouseRule>⟧ b.vtable).meaning b.value) rules.old) caps.now }
+    requires { CanRun nodes.old stations.now demanded.now demands.now paused.now (map meaning rules.old) caps.now }
     ensures all { OnOk result (length nodes.new ≡ length nodes.old) }
     ensures kept { length rules.new ≡ length rules.old }
-    ensures holds { (s : Setting) (t : ℕ) → IsReady s t nodes.old stations.now demanded.now demands.now paused.now (map (λ b. (⟦<dyn HouseRule as HouseRule>⟧ b.vtable).meaning b.value) rules.old) caps.now → OnOk result (Holds s (suc t) nodes.new) }
-    ensures within { (s : Setting) (t : ℕ) → IsReady s t nodes.old stations.now demanded.now demands.now paused.now (map (λ b. (⟦<dyn HouseRule as HouseRule>⟧ b.vtable).meaning b.value) rules.old) caps.now → OnOk result (period_over s t ≡ None) }
-    ensures answered { (s : Setting) (t : ℕ) → IsReady s t nodes.old stations.now demanded.now demands.now paused.now (map (λ b. (⟦<dyn HouseRule as HouseRule>⟧ b.vtable).meaning b.value) rules.old) caps.now → OnOk result (HaveAnswered s (suc t) 0 (map (λ b. (⟦<dyn HouseRule as HouseRule>⟧ b.vtable).meaning b.value) rules.new)) }
-    ensures over { (s : Setting) (t : ℕ) → IsReady s t nodes.old stations.now demanded.now demands.now paused.now (map (λ b. (⟦<dyn HouseRule as HouseRule>⟧ b.vtable).meaning b.value) rules.old) caps.now → IfErr result (λ over. IsCutShort s t over (map (λ b. (⟦<dyn HouseRule as HouseRule>⟧ b.vtable).meaning b.value) rules.new)) }
+    ensures holds { (s : Setting) (t : ℕ) → IsReady s t nodes.old stations.now demanded.now demands.now paused.now (map meaning rules.old) caps.now → OnOk result (Holds s (suc t) nodes.new) }
+    ensures within { (s : Setting) (t : ℕ) → IsReady s t nodes.old stations.now demanded.now demands.now paused.now (map meaning rules.old) caps.now → OnOk result (period_over s t ≡ None) }
+    ensures answered { (s : Setting) (t : ℕ) → IsReady s t nodes.old stations.now demanded.now demands.now paused.now (map meaning rules.old) caps.now → OnOk result (HaveAnswered s (suc t) 0 (map meaning rules.new)) }
+    ensures over { (s : Setting) (t : ℕ) → IsReady s t nodes.old stations.now demanded.now demands.now paused.now (map meaning rules.old) caps.now → IfErr result (λ over. IsCutShort s t over (map meaning rules.new)) }
 {
     order_pass(
         nodes,

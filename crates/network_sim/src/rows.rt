@@ -59,9 +59,7 @@ impl Row {
             due: 0,
             cost: 0,
         };
-        let Ok(lines) = vec![in alloc; nothing; net.nodes.as_slice().len()] else {
-            return Err(Memory);
-        };
+        let lines = vec![in alloc; nothing; net.nodes.as_slice().len()]?;
         Ok(Row { lines })
     }
 }

@@ -55,9 +55,9 @@ impl Sim {
         rules: Vec<Box<dyn HouseRule>>,
     ) -> Result<Sim, SimErr>
         requires { IsValidNetwork network.now }
-        ensures stands { IfOk result (λ sim. (demand : ℕ → ℕ → ℕ) → IsAfter (record { network = network.now; demand = demand; handed = map (λ b. (⟦<dyn HouseRule as HouseRule>⟧ b.vtable).meaning b.value) rules.items }) 0 sim (map (λ b. (⟦<dyn HouseRule as HouseRule>⟧ b.vtable).meaning b.value) sim.rules.items)) }
+        ensures stands { IfOk result (λ sim. (demand : ℕ → ℕ → ℕ) → IsAfter (record { network = network.now; demand = demand; handed = map (λ b. (⟦<dyn HouseRule as HouseRule>⟧ b.vtable).meaning b.value) rules.items }) 0 sim (map meaning sim.rules.items)) }
         ensures drawn { IfOk result (HasDrawn network.now 0) }
-        ensures refused { IfErr result (IsRefusalOf (rules_refusal network.now.nodes (map (λ b. (⟦<dyn HouseRule as HouseRule>⟧ b.vtable).meaning b.value) rules.items))) }
+        ensures refused { IfErr result (IsRefusalOf (rules_refusal network.now.nodes (map meaning rules.items))) }
     {
         check_rules(network.nodes.as_slice(), &rules)?;
         let Ok(caps) = caps_of(alloc, &rules) else {
@@ -83,11 +83,11 @@ impl Sim {
     /// once. The first answer above its rule's cap ends the run: no further rule is asked, the row stays as it was, and
     /// from then on each call answers the same.
     pub fn period(&mut self, demands: &[u32], row: &mut Row) -> Result<(), RuleOver>
-        requires { CanPlay self.old (map (λ b. (⟦<dyn HouseRule as HouseRule>⟧ b.vtable).meaning b.value) self.old.rules.items) demands.now row.old.lines.items ⊎ IsEnded self.old }
-        ensures stands { (s : Setting) (n : ℕ) → IsAfter s n self.old (map (λ b. (⟦<dyn HouseRule as HouseRule>⟧ b.vtable).meaning b.value) self.old.rules.items) → suc n ≤ s.network.periods → AreDemands s (suc n) demands.now → OnOk result (IsAfter s (suc n) self.new (map (λ b. (⟦<dyn HouseRule as HouseRule>⟧ b.vtable).meaning b.value) self.new.rules.items)) }
-        ensures row { (s : Setting) (n : ℕ) → IsAfter s n self.old (map (λ b. (⟦<dyn HouseRule as HouseRule>⟧ b.vtable).meaning b.value) self.old.rules.items) → suc n ≤ s.network.periods → AreDemands s (suc n) demands.now → OnOk result (row.new.lines.items ≡ row_of s n) }
-        ensures within { (s : Setting) (n : ℕ) → IsAfter s n self.old (map (λ b. (⟦<dyn HouseRule as HouseRule>⟧ b.vtable).meaning b.value) self.old.rules.items) → suc n ≤ s.network.periods → AreDemands s (suc n) demands.now → OnOk result (period_over s n ≡ None) }
-        ensures over { (s : Setting) (n : ℕ) → IsAfter s n self.old (map (λ b. (⟦<dyn HouseRule as HouseRule>⟧ b.vtable).meaning b.value) self.old.rules.items) → suc n ≤ s.network.periods → AreDemands s (suc n) demands.now → IfErr result (λ over. IsOver s n over self.new (map (λ b. (⟦<dyn HouseRule as HouseRule>⟧ b.vtable).meaning b.value) self.new.rules.items)) }
+        requires { CanPlay self.old (map meaning self.old.rules.items) demands.now row.old.lines.items ⊎ IsEnded self.old }
+        ensures stands { (s : Setting) (n : ℕ) → IsAfter s n self.old (map meaning self.old.rules.items) → suc n ≤ s.network.periods → AreDemands s (suc n) demands.now → OnOk result (IsAfter s (suc n) self.new (map meaning self.new.rules.items)) }
+        ensures row { (s : Setting) (n : ℕ) → IsAfter s n self.old (map meaning self.old.rules.items) → suc n ≤ s.network.periods → AreDemands s (suc n) demands.now → OnOk result (row.new.lines.items ≡ row_of s n) }
+        ensures within { (s : Setting) (n : ℕ) → IsAfter s n self.old (map meaning self.old.rules.items) → suc n ≤ s.network.periods → AreDemands s (suc n) demands.now → OnOk result (period_over s n ≡ None) }
+        ensures over { (s : Setting) (n : ℕ) → IsAfter s n self.old (map meaning self.old.rules.items) → suc n ≤ s.network.periods → AreDemands s (suc n) demands.now → IfErr result (λ over. IsOver s n over self.new (map meaning self.new.rules.items)) }
         ensures ended { (over : RuleOver) → self.old.over ≡ Some over → (result ≡ Err over) × (self.new ≡ self.old) }
         ensures kept { OnErr result (row.new ≡ row.old) }
     {
@@ -104,11 +104,11 @@ impl Sim {
     /// Runs the next period with the demands that the network states or that are drawn, and writes its row, as `period`
     /// does. For each node with a law, in listed order, one word is taken from the network's generator.
     pub fn draw(&mut self, row: &mut Row) -> Result<(), RuleOver>
-        requires { CanDraw self.old (map (λ b. (⟦<dyn HouseRule as HouseRule>⟧ b.vtable).meaning b.value) self.old.rules.items) row.old.lines.items ⊎ IsEnded self.old }
-        ensures stands { (net : Network) (handed : List Handed) (n : ℕ) → IsAfter (setting_of net handed) n self.old (map (λ b. (⟦<dyn HouseRule as HouseRule>⟧ b.vtable).meaning b.value) self.old.rules.items) → HasDrawn net n self.old → suc n ≤ net.periods → OnOk result (IsAfter (setting_of net handed) (suc n) self.new (map (λ b. (⟦<dyn HouseRule as HouseRule>⟧ b.vtable).meaning b.value) self.new.rules.items) × HasDrawn net (suc n) self.new) }
-        ensures row { (net : Network) (handed : List Handed) (n : ℕ) → IsAfter (setting_of net handed) n self.old (map (λ b. (⟦<dyn HouseRule as HouseRule>⟧ b.vtable).meaning b.value) self.old.rules.items) → HasDrawn net n self.old → suc n ≤ net.periods → OnOk result (row.new.lines.items ≡ network_row net handed n) }
-        ensures within { (net : Network) (handed : List Handed) (n : ℕ) → IsAfter (setting_of net handed) n self.old (map (λ b. (⟦<dyn HouseRule as HouseRule>⟧ b.vtable).meaning b.value) self.old.rules.items) → HasDrawn net n self.old → suc n ≤ net.periods → OnOk result (period_over (setting_of net handed) n ≡ None) }
-        ensures over { (net : Network) (handed : List Handed) (n : ℕ) → IsAfter (setting_of net handed) n self.old (map (λ b. (⟦<dyn HouseRule as HouseRule>⟧ b.vtable).meaning b.value) self.old.rules.items) → HasDrawn net n self.old → suc n ≤ net.periods → IfErr result (λ over. IsOver (setting_of net handed) n over self.new (map (λ b. (⟦<dyn HouseRule as HouseRule>⟧ b.vtable).meaning b.value) self.new.rules.items)) }
+        requires { CanDraw self.old (map meaning self.old.rules.items) row.old.lines.items ⊎ IsEnded self.old }
+        ensures stands { (net : Network) (handed : List Handed) (n : ℕ) → IsAfter (setting_of net handed) n self.old (map meaning self.old.rules.items) → HasDrawn net n self.old → suc n ≤ net.periods → OnOk result (IsAfter (setting_of net handed) (suc n) self.new (map meaning self.new.rules.items) × HasDrawn net (suc n) self.new) }
+        ensures row { (net : Network) (handed : List Handed) (n : ℕ) → IsAfter (setting_of net handed) n self.old (map meaning self.old.rules.items) → HasDrawn net n self.old → suc n ≤ net.periods → OnOk result (row.new.lines.items ≡ network_row net handed n) }
+        ensures within { (net : Network) (handed : List Handed) (n : ℕ) → IsAfter (setting_of net handed) n self.old (map meaning self.old.rules.items) → HasDrawn net n self.old → suc n ≤ net.periods → OnOk result (period_over (setting_of net handed) n ≡ None) }
+        ensures over { (net : Network) (handed : List Handed) (n : ℕ) → IsAfter (setting_of net handed) n self.old (map meaning self.old.rules.items) → HasDrawn net n self.old → suc n ≤ net.periods → IfErr result (λ over. IsOver (setting_of net handed) n over self.new (map meaning self.new.rules.items)) }
         ensures ended { (over : RuleOver) → self.old.over ≡ Some over → (result ≡ Err over) × (self.new ≡ self.old) }
         ensures kept { OnErr result (row.new ≡ row.old) }
     {

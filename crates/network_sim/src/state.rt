@@ -45,25 +45,15 @@ impl State {
         ensures { IfOk result (λ state. (demand : ℕ → ℕ → ℕ) (handed : List Handed) → IsStateAfter (record { network = network.now; demand = demand; handed = handed }) 0 state) }
     {
         let count = network.nodes.as_slice().len();
-        let Ok(wiring) = wire(alloc, network) else {
-            return Err(Memory);
-        };
-        let Ok(stations) = find_stations(alloc, network, wiring) else {
-            return Err(Memory);
-        };
+        let wiring = wire(alloc, network)?;
+        let stations = find_stations(alloc, network, wiring)?;
         let nodes = make_nodes(alloc, network, &stations)?;
         let Ok(calendar) = Calendar::new(alloc, network.pauses.as_slice()) else {
             return Err(Memory);
         };
-        let Ok(paused) = Paused::new(alloc, count) else {
-            return Err(Memory);
-        };
-        let Ok(demanded) = vec![in alloc; 0u64; count] else {
-            return Err(Memory);
-        };
-        let Ok(ordered) = vec![in alloc; 0u64; count] else {
-            return Err(Memory);
-        };
+        let paused = Paused::new(alloc, count)?;
+        let demanded = vec![in alloc; 0u64; count]?;
+        let ordered = vec![in alloc; 0u64; count]?;
         Ok(State {
             nodes,
             stations,
@@ -86,12 +76,12 @@ impl State {
         caps: &[u64],
         row: &mut Row,
     ) -> Result<(), RuleOver>
-        requires { CanAdvance self.old demands.now row.old.lines.items (map (λ b. (⟦<dyn HouseRule as HouseRule>⟧ b.vtable).meaning b.value) rules.old) caps.now }
-        ensures stands { (s : Setting) (n : ℕ) → IsStateAfter s n self.old → AreFit s n (map (λ b. (⟦<dyn HouseRule as HouseRule>⟧ b.vtable).meaning b.value) rules.old) caps.now → suc n ≤ s.network.periods → AreDemands s (suc n) demands.now → OnOk result (IsStateAfter s (suc n) self.new) }
-        ensures row { (s : Setting) (n : ℕ) → IsStateAfter s n self.old → AreFit s n (map (λ b. (⟦<dyn HouseRule as HouseRule>⟧ b.vtable).meaning b.value) rules.old) caps.now → suc n ≤ s.network.periods → AreDemands s (suc n) demands.now → OnOk result (row.new.lines.items ≡ row_of s n) }
-        ensures within { (s : Setting) (n : ℕ) → IsStateAfter s n self.old → AreFit s n (map (λ b. (⟦<dyn HouseRule as HouseRule>⟧ b.vtable).meaning b.value) rules.old) caps.now → suc n ≤ s.network.periods → AreDemands s (suc n) demands.now → OnOk result (period_over s n ≡ None) }
-        ensures answered { (s : Setting) (n : ℕ) → IsStateAfter s n self.old → AreFit s n (map (λ b. (⟦<dyn HouseRule as HouseRule>⟧ b.vtable).meaning b.value) rules.old) caps.now → suc n ≤ s.network.periods → AreDemands s (suc n) demands.now → OnOk result (HaveAnswered s (suc n) 0 (map (λ b. (⟦<dyn HouseRule as HouseRule>⟧ b.vtable).meaning b.value) rules.new)) }
-        ensures over { (s : Setting) (n : ℕ) → IsStateAfter s n self.old → AreFit s n (map (λ b. (⟦<dyn HouseRule as HouseRule>⟧ b.vtable).meaning b.value) rules.old) caps.now → suc n ≤ s.network.periods → AreDemands s (suc n) demands.now → IfErr result (λ over. IsCutShort s n over (map (λ b. (⟦<dyn HouseRule as HouseRule>⟧ b.vtable).meaning b.value) rules.new)) }
+        requires { CanAdvance self.old demands.now row.old.lines.items (map meaning rules.old) caps.now }
+        ensures stands { (s : Setting) (n : ℕ) → IsStateAfter s n self.old → AreFit s n (map meaning rules.old) caps.now → suc n ≤ s.network.periods → AreDemands s (suc n) demands.now → OnOk result (IsStateAfter s (suc n) self.new) }
+        ensures row { (s : Setting) (n : ℕ) → IsStateAfter s n self.old → AreFit s n (map meaning rules.old) caps.now → suc n ≤ s.network.periods → AreDemands s (suc n) demands.now → OnOk result (row.new.lines.items ≡ row_of s n) }
+        ensures within { (s : Setting) (n : ℕ) → IsStateAfter s n self.old → AreFit s n (map meaning rules.old) caps.now → suc n ≤ s.network.periods → AreDemands s (suc n) demands.now → OnOk result (period_over s n ≡ None) }
+        ensures answered { (s : Setting) (n : ℕ) → IsStateAfter s n self.old → AreFit s n (map meaning rules.old) caps.now → suc n ≤ s.network.periods → AreDemands s (suc n) demands.now → OnOk result (HaveAnswered s (suc n) 0 (map meaning rules.new)) }
+        ensures over { (s : Setting) (n : ℕ) → IsStateAfter s n self.old → AreFit s n (map meaning rules.old) caps.now → suc n ≤ s.network.periods → AreDemands s (suc n) demands.now → IfErr result (λ over. IsCutShort s n over (map meaning rules.new)) }
         ensures rules { length rules.new ≡ length rules.old }
         ensures periods { OnErr result (self.new.periods ≡ self.old.periods) }
         ensures played { OnErr result (self.new.played ≡ self.old.played) }

@@ -87,9 +87,7 @@ pub fn make_nodes(
         let spec = &specs[place];
         let callers = stations[place].callers.as_slice().len();
         let node = Node::new(alloc, spec.initial, spec.sources.as_slice(), callers)?;
-        let Ok(()) = nodes.push(node) else {
-            return Err(Memory);
-        };
+        nodes.push(node)?;
     }
     Ok(nodes)
 }

@@ -2,8 +2,6 @@
 #![tactic(auto)]
 
 mod solve;
-#[cfg(test)]
-mod tests;
 
 use demand_law::Law;
 pub use solve::{NewsCert, cost_at, solve_newsvendor, weighted_cost};

@@ -8,8 +8,6 @@ mod legs;
 mod node;
 mod ring;
 mod rules;
-#[cfg(test)]
-mod tests;
 
 pub use house::HouseRule;
 pub use laws::{nodes_balance, orders_stay_within_peaks};

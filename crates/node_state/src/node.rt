@@ -52,12 +52,8 @@ impl Node {
         requires some { 1 ≤ length sources.now }
         ensures { IfOk result (λ n. n ≡ new_holding initial (legs_of sources.now) claims) }
     {
-        let Ok(legs) = new_legs(alloc, sources) else {
-            return Err(Memory);
-        };
-        let Ok(claims) = new_claims(alloc, claims) else {
-            return Err(Memory);
-        };
+        let legs = new_legs(alloc, sources)?;
+        let claims = new_claims(alloc, claims)?;
         Ok(Node {
             initial,
             ordered: 0,

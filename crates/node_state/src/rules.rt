@@ -4,7 +4,7 @@ ghost use Rattle.std.specs.Int.RustNames.{unsigned_abs};
 ghost use Rattle.decision_model.specs.Positions.{above_zero};
 ghost use Rattle.node_state.specs.Orders.{base_order};
 
-use decision_model::Rule;
+use decision_model::{Rule, above_zero};
 use std::marker::Model;
 
 /// Which stock a rule looks at.
@@ -67,12 +67,6 @@ fn shortfall(level: i64, position: i64) -> u64
     } else {
         0
     }
-}
-
-fn above_zero(number: i64) -> u64
-    ensures { result ≡ above_zero number }
-{
-    if number < 0 { 0 } else { number as u64 }
 }
 
 /// Orders up to a level.
@@ -337,9 +331,11 @@ impl NodeRule {
         ensures { result ≡ is_echelon self.now }
     {
         match self.rule {
-            Rule::Echelon { .. } => true,
-            Rule::Base { .. } | Rule::MinMax { .. } | Rule::Lot { .. } | Rule::House { .. } =>
-                false,
+            Rule::Base { .. } => <BaseStock as OrderRule>::Seen::ECHELON,
+            Rule::MinMax { .. } => <MinMax as OrderRule>::Seen::ECHELON,
+            Rule::Lot { .. } => <ReorderLot as OrderRule>::Seen::ECHELON,
+            Rule::Echelon { .. } => <EchelonBase as OrderRule>::Seen::ECHELON,
+            Rule::House { .. } => false,
         }
     }
 }

@@ -8,3 +8,5 @@ pub mod Average
 pub mod Serial
 pub mod Network
 pub mod Reports
+pub mod Verdicts
+pub mod Trial

@@ -3,15 +3,15 @@ use Rattle.std.specs.Prelude.{ℕ, List, [], ◌++◌, codes, decimal}
 use Rattle.demand_law.specs.declared.law.LawFault.{LawFault}
 use Rattle.demand_law.specs.declared.law.LawFault.TheVariants as law
 use Rattle.decision_model.specs.Kind.{kind_word}
-use Rattle.instance_json.specs.declared.fault.Key.{Key}
-use Rattle.instance_json.specs.declared.fault.KeyList.{KeyList}
-use Rattle.instance_json.specs.declared.fault.KeyList.TheVariants.{Top, Nodes, Pauses}
-use Rattle.instance_json.specs.declared.fault.InstanceFault.{InstanceFault}
-use Rattle.instance_json.specs.declared.fault.InstanceFault.TheVariants as instance
-use Rattle.instance_json.specs.declared.fault.InstanceErr.{InstanceErr}
-use Rattle.instance_json.specs.declared.fault.InstanceErr.TheVariants as error
+use Rattle.json_forms.specs.declared.fault.Key.{Key}
+use Rattle.json_forms.specs.declared.fault.KeyList.{KeyList}
+use Rattle.json_forms.specs.declared.fault.KeyList.TheVariants.{Top, Nodes, Pauses}
+use Rattle.json_forms.specs.declared.fault.InstanceFault.{InstanceFault}
+use Rattle.json_forms.specs.declared.fault.InstanceFault.TheVariants as instance
+use Rattle.json_forms.specs.declared.fault.InstanceErr.{InstanceErr}
+use Rattle.json_forms.specs.declared.fault.InstanceErr.TheVariants as error
 use Rattle.report_text.specs.declared.faults.Fault.{Fault}
-use Rattle.report_text.specs.declared.faults.Fault.TheVariants.{NoCommand, UnknownCommand, TooFew, TooMany, EmptyName, NoOption, BadNumber, TwoInputs, MissingFile, TooLong, Instance, NotThisCommand, ReadFault, WriteFault, NoRule, RuleShared, RuleCap, RuleOver, Memory}
+use Rattle.report_text.specs.declared.faults.Fault.TheVariants.{NoCommand, UnknownCommand, UnknownAction, TooFew, TooMany, EmptyName, NoOption, BadNumber, TwoInputs, MissingFile, TooLong, Instance, NotThisCommand, ReadFault, WriteFault, NoRule, RuleShared, RuleCap, RuleOver, Memory}
 
 -- the fault of a text that gives no instance
 abbrev pub instance_fault : InstanceErr → Fault
@@ -67,6 +67,7 @@ rule_words index wrong = codes "house rule " ++ decimal index ++ wrong
 abbrev pub fault_words : Fault → List ℕ
 fault_words NoCommand = codes "no command"
 fault_words UnknownCommand = word_words 1 (codes ": unknown command")
+fault_words UnknownAction = word_words 2 (codes ": unknown action")
 fault_words (TooFew word) = word_words word (codes ": missing")
 fault_words (TooMany word) = word_words word (codes ": not expected")
 fault_words (EmptyName word) = word_words word (codes ": empty name")

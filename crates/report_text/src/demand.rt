@@ -8,9 +8,6 @@ use decision_model::Instance;
 use fraction128::{Memory, Text};
 use std::alloc::Global;
 
-#[cfg(test)]
-mod tests;
-
 /// Whether an instance has laws of demand. That of lot sizing is known, and a network is no decision over its demand.
 pub fn has_laws(instance: &Instance) -> bool
     ensures { result ≡ has_laws instance.now }

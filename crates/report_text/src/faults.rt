@@ -6,12 +6,9 @@ use crate::pieces::{push_both, push_number, push_numbered};
 use decision_model::Kind;
 use demand_law::LawFault;
 use fraction128::{Memory, Text};
-use instance_json::{InstanceErr, InstanceFault, Key, KeyList};
+use json_forms::{InstanceErr, InstanceFault, Key, KeyList};
 use network_sim::RuleOver;
 use std::alloc::Global;
-
-#[cfg(test)]
-mod tests;
 
 /// Why a run doesn't end with its text, as standard error tells it.
 #[derive(Drop)]
@@ -20,6 +17,8 @@ pub enum Fault {
     NoCommand,
     /// The first word is no command.
     UnknownCommand,
+    /// The second word is no action of the part that the first word names.
+    UnknownAction,
     /// The command needs a word at this place, from 1, where there is none.
     TooFew(u32),
     /// The command takes no word at this place.
@@ -197,6 +196,7 @@ fn push_fault(out: &mut Text, fault: &Fault) -> Result<(), Memory>
     match fault {
         Fault::NoCommand => out.push(b"no command"),
         Fault::UnknownCommand => push_word(out, 1, ": unknown command"),
+        Fault::UnknownAction => push_word(out, 2, ": unknown action"),
         Fault::TooFew(word) => push_word(out, *word, ": missing"),
         Fault::TooMany(word) => push_word(out, *word, ": not expected"),
         Fault::EmptyName(word) => push_word(out, *word, ": empty name"),
@@ -251,6 +251,13 @@ impl From<InstanceErr> for Fault {
             InstanceErr::Memory => Fault::Memory,
         }
     }
+}
+
+/// The line of standard error that tells a failed output. It takes no memory.
+pub fn cannot_write_text() -> &'static str
+    ensures { result.now ≡ fault_message Fault.WriteFault }
+{
+    "stock: cannot write\n"
 }
 
 /// The line of standard error that tells a fault: `stock: `, the message and a line feed.

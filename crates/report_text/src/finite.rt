@@ -16,9 +16,6 @@ use fraction128::{Memory, Text};
 use std::alloc::Global;
 use value_cert::{FiniteCell, FiniteCert, FiniteRow};
 
-#[cfg(test)]
-mod tests;
-
 // Appends the line of a position, if it orders.
 fn push_move(out: &mut Text, cell: &FiniteCell) -> Result<(), Memory>
     ensures { OnOk result (out.new ≡ out.old ++ move_line cell.now) }

@@ -1,15 +1,15 @@
 -- The tables of a recursion leave room for the rows of the next echelon.
-use Rattle.std.proofs.Common.{◌≡◌, ℕ, zero, suc, ◌+◌, ◌-◌, ◌*◌, ◌^◌, ◌<◌, ◌≤◌, min, ℤ, pos, ◌+ℤ◌, ◌-ℤ◌, List, length, sym, ◌∙◌, ap, arith, subst}
+use Rattle.std.proofs.Common.{◌≡◌, ℕ, zero, suc, ◌+◌, ◌-◌, ◌*◌, ◌^◌, ◌<◌, ◌≤◌, min, ℤ, pos, ◌+ℤ◌, List, length, sym, ◌∙◌, arith, subst}
 use Rattle.std.proofs.Props.{props}
 use Rattle.std.specs.Prelude.{unsigned_abs}
 use Rattle.decision_model.specs.Serial.{IsValidSerial, serial_low, serial_positions}
 use Rattle.decision_model.specs.SerialProblem.{law_of_period, unit_of}
 use Rattle.decision_model.specs.declared.serial.Serial.{Serial}
-use Rattle.value_cert.specs.SerialValues.{scale, order_cost, row_width}
+use Rattle.value_cert.specs.SerialValues.{scale, row_width}
 use Rattle.serial_lemmas.specs.Levels.{size_bound}
 use Rattle.serial_lemmas.specs.Sizes.{size_sub}
-use Rattle.serial_recursion.specs.Periods.{IsBounded, AreTables, cell_at}
-use Rattle.serial_recursion.specs.Rows.{IsFrame, HasRoom, value_at, row_at, place_cost, charge_of, place_charge}
+use Rattle.serial_recursion.specs.Periods.{IsBounded}
+use Rattle.serial_recursion.specs.Rows.{IsFrame, HasRoom, value_at, row_at, place_cost, charge_of}
 use Rattle.serial_recursion.specs.declared.frame.Frame.{Frame}
 use Rattle.serial_recursion.proofs.Frames.{place_on, width_some}
 use Rattle.serial_recursion.proofs.Known.{from_hidden}

@@ -1,24 +1,22 @@
 -- What is known of a recursion where it may go on.
-use Rattle.std.proofs.Common.{◌≡◌, ◌⊎◌, inl, inr, ℕ, zero, suc, ◌+◌, ◌-◌, ◌*◌, ◌^◌, ◌<◌, ◌≤◌, nat_le, nat_lt, Bool, true, false, ◌&&◌, ◌||◌, not, eqb, ℤ, pos, ◌+ℤ◌, ◌-ℤ◌, ◌≤ℤ◌, List, length, refl, sym, ◌∙◌, ap, arith, subst}
+use Rattle.std.proofs.Common.{◌≡◌, ◌⊎◌, inl, inr, ℕ, zero, suc, ◌+◌, ◌-◌, ◌*◌, ◌^◌, ◌<◌, ◌≤◌, nat_lt, true, ◌&&◌, ◌||◌, not, eqb, ℤ, pos, ◌+ℤ◌, ◌-ℤ◌, ◌≤ℤ◌, List, length, refl, ◌∙◌, ap, arith}
 use Rattle.std.specs.Prelude.{unsigned_abs, int_le}
 use Rattle.std.proofs.lemmas.Bool.{and_parts, or_cases, ltb-true, leb-true, leb-false, eqb-true, not-true}
 use Rattle.std.proofs.lemmas.Int.{ints}
-use Rattle.decision_model.specs.Positions.{IsCap}
 use Rattle.decision_model.specs.PositionTests.{le_known}
 use Rattle.decision_model.specs.Serial.{IsValidSerial, serial_low, serial_positions}
 use Rattle.decision_model.specs.declared.serial.Serial.{Serial}
 use Rattle.value_cert.specs.SerialRules.{FirstRows, last_period, is_on_grid, turns_at_level}
-use Rattle.value_cert.specs.SerialValues.{order_cost, row_width, levels_for, least_position}
+use Rattle.value_cert.specs.SerialValues.{order_cost, row_width, levels_for}
 use Rattle.std.specs.List.{list_all, range_with_len}
 use Rattle.newsvendor.specs.Least.{first_least_upto}
-use Rattle.serial_recursion.specs.Periods.{AreTables, HoldsPeriod, IsBounded, IsFresh, IsWritten, are_all, cell_at, is_left, is_ready, is_whole}
+use Rattle.serial_recursion.specs.Periods.{AreTables, IsFresh, IsWritten, are_all, is_left, is_ready, is_whole}
 use Rattle.serial_recursion.specs.Recursions.{KnowsTables}
 use Rattle.serial_recursion.specs.Rows.{IsFrame, period_of, turns_from, value_at}
 use Rattle.serial_recursion.specs.declared.frame.Frame.{Frame}
 use Rattle.serial_recursion.proofs.Begun.{before_row, orders_are}
-use Rattle.serial_recursion.proofs.Frames.{low_cap, width_is, width_most, width_some}
+use Rattle.serial_recursion.proofs.Frames.{width_is, width_most, width_some}
 use Rattle.serial_recursion.proofs.LevelPlaces.{level_is, turns_is}
-use Rattle.serial_recursion.proofs.Period.{t, n}
 use Rattle.serial_recursion.proofs.Rooms.{low_near, far_small}
 
 -- a position without a value

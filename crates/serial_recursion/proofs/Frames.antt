@@ -1,6 +1,5 @@
 -- The numbers of a period.
-use Rattle.std.proofs.Common.{◌≡◌, ℕ, zero, suc, ◌+◌, ◌-◌, ◌*◌, ◌^◌, ◌<◌, ◌≤◌, ℤ, pos, ◌+ℤ◌, ◌-ℤ◌, ◌≤ℤ◌, sym, ◌∙◌, ap, arith, subst, mul_assoc, mul_comm}
-use Rattle.std.specs.Prelude.{unsigned_abs}
+use Rattle.std.proofs.Common.{◌≡◌, ℕ, suc, ◌+◌, ◌-◌, ◌*◌, ◌^◌, ◌<◌, ◌≤◌, ℤ, pos, ◌+ℤ◌, ◌-ℤ◌, ◌≤ℤ◌, sym, ◌∙◌, ap, arith, mul_assoc, mul_comm}
 use Rattle.std.proofs.lemmas.Int.{ints}
 use Rattle.std.proofs.lemmas.Nat.{mul-le, mul-pow}
 use Rattle.std.proofs.Math.Nat.{pow-zero}
@@ -8,11 +7,11 @@ use Rattle.demand_law.specs.Integers as Z
 use Rattle.demand_law.specs.Sequences.{greatest_in}
 use Rattle.decision_model.specs.DemandLaws.{common_total}
 use Rattle.decision_model.specs.LawFacts.{common_total_some}
-use Rattle.decision_model.specs.Positions.{positions_from, above_zero}
+use Rattle.decision_model.specs.Positions.{above_zero}
 use Rattle.decision_model.specs.PositionTests.{above_zero_is}
 use Rattle.decision_model.specs.Serial.{IsReadableSerial, IsValidSerial, serial_low, serial_positions}
 use Rattle.decision_model.specs.SerialSound.{IsSoundSerial, sound_readable, low_zero, low_falls, positions_are}
-use Rattle.decision_model.specs.WidthFacts.{serial_scale_fits, serial_scale_some}
+use Rattle.decision_model.specs.WidthFacts.{serial_scale_fits}
 use Rattle.decision_model.specs.declared.serial.Serial.{Serial}
 use Rattle.value_cert.specs.SerialValues.{scale, demand_scale, row_width}
 

@@ -1,5 +1,5 @@
 -- An instance that is valid by a fact whose proof is hidden is valid.
-use Rattle.std.proofs.Common.{◌≡◌, ◌≢◌, true, false, eqb, ℕ, ◌+◌, List, length, ◌⊎◌, inl, inr}
+use Rattle.std.proofs.Common.{◌≡◌, ◌≢◌, true, false, eqb, ℕ, List, length, ◌⊎◌, inl, inr}
 use Rattle.std.proofs.Props.{props}
 use mathlib.Core.Logic.{∥∥₁_elim}
 use Rattle.std.proofs.lemmas.Bool.Decides.{eqb_tells}

@@ -1,23 +1,21 @@
 -- What is known of the last of some periods, and its rows by place as functions of positions.
-use Rattle.std.proofs.Common.{◌≡◌, ℕ, zero, suc, ◌+◌, ◌-◌, ◌*◌, ◌^◌, ◌<◌, ◌≤◌, min, max, ℤ, pos, ◌+ℤ◌, ◌-ℤ◌, ◌*ℤ◌, ◌≤ℤ◌, List, length, sum, refl, sym, ◌∙◌, ap, arith, subst}
+use Rattle.std.proofs.Common.{◌≡◌, ℕ, zero, suc, ◌+◌, ◌-◌, ◌*◌, ◌<◌, ◌≤◌, min, max, ℤ, pos, ◌+ℤ◌, ◌-ℤ◌, ◌*ℤ◌, ◌≤ℤ◌, List, length, sum, refl, sym, ◌∙◌, ap, arith, subst}
 use Rattle.std.proofs.lemmas.Int.{ints, clamps}
 use Rattle.std.specs.Int.{int_max, int_min}
-use Rattle.demand_law.specs.Integers as Z
 use Rattle.demand_law.specs.Law.{weighted}
 use Rattle.demand_law.specs.Sequences.{greatest_in}
 use Rattle.demand_law.specs.WeightedSums.{weighted-ext, weighted-ext_within, weighted-add, weighted-sub, weighted-scale, weighted-const}
-use Rattle.decision_model.specs.DemandLaws.{common_total}
 use Rattle.decision_model.specs.Positions.{above_zero}
 use Rattle.decision_model.specs.PositionTests.{above_zero_is}
-use Rattle.decision_model.specs.Serial.{IsReadableSerial, IsValidSerial, serial_low}
-use Rattle.decision_model.specs.SerialProblem.{law_of_period, holding_of, unit_of, lacking_rate}
+use Rattle.decision_model.specs.Serial.{IsValidSerial, serial_low}
+use Rattle.decision_model.specs.SerialProblem.{law_of_period, holding_of, unit_of}
 use Rattle.decision_model.specs.SerialSound.{low_zero}
 use Rattle.decision_model.specs.Stock.{stock_cost}
 use Rattle.decision_model.specs.declared.serial.Serial.{Serial}
 use Rattle.value_cert.specs.SerialValues.{scale, demand_scale, own_cost, own, order_cost, penalty, echelon_value, row_width}
-use Rattle.serial_recursion.specs.Rows.{IsFrame, value_at, period_of, lacking_of, rates_for, place_line, place_cost, place_charge, charge_of, stock_sum, place_value}
+use Rattle.serial_recursion.specs.Rows.{IsFrame, value_at, period_of, lacking_of, rates_for, place_line, place_cost, charge_of, stock_sum, place_value}
 use Rattle.serial_recursion.specs.declared.frame.Frame.{Frame}
-use Rattle.serial_recursion.proofs.Frames.{sound, low_next_is, width_next, width_is}
+use Rattle.serial_recursion.proofs.Frames.{sound, low_next_is, width_next}
 
 -- what lacks at a position, over all demands
 lacks_is : (ws : List ℕ) (y : ℤ) → stock_cost 0 1 ws y ≡ weighted ws (λ d. pos (above_zero (pos d -ℤ y)))

@@ -1,20 +1,19 @@
 -- The tables of a recursion after a period is begun, and after a position is kept.
-use Rattle.std.proofs.Common.{◌≡◌, ℕ, zero, suc, ◌+◌, ◌-◌, ◌*◌, ◌<◌, ◌≤◌, ℤ, pos, ◌+ℤ◌, Bool, true, false, cond, eqb, ◌&&◌, List, length, refl, sym, ◌∙◌, ap, arith, subst, ◌⊎◌, inl, inr}
+use Rattle.std.proofs.Common.{◌≡◌, ℕ, suc, ◌+◌, ◌-◌, ◌*◌, ◌<◌, ◌≤◌, ℤ, pos, ◌+ℤ◌, Bool, true, false, cond, eqb, ◌&&◌, List, length, refl, sym, ◌∙◌, ap, arith, subst, ◌⊎◌, inl, inr}
 use Rattle.std.proofs.lemmas.Bool.{cases_lt, eq-eqb, and_parts, and_from, eqb-true}
 use Rattle.std.proofs.lemmas.Int.{ints}
-use Rattle.std.proofs.lemmas.Nat.{mul-le}
 use Rattle.std.specs.Int.Signed.{≤ℤ_refl}
 use Rattle.decision_model.specs.Serial.{IsValidSerial, serial_low, serial_positions}
 use Rattle.decision_model.specs.declared.serial.Serial.{Serial}
 use Rattle.value_cert.specs.Numbers.{is_number}
-use Rattle.value_cert.specs.SerialRules.{FirstRows, named_rows, no_rows, last_period}
+use Rattle.value_cert.specs.SerialRules.{FirstRows, named_rows, last_period}
 use Rattle.value_cert.specs.SerialValues.{order_cost, echelon_value, no_values, row_width}
 use Rattle.value_cert.specs.declared.line.CertLine.TheVariants.{Period, Part}
 use Rattle.serial_lemmas.specs.BoundedValues.{AreBounded, bounded_values, bounded_last}
 use Rattle.serial_lemmas.specs.RowCells.{same_number, number_at}
 use Rattle.serial_recursion.specs.Periods.{HoldsPeriod, IsBounded, IsFresh, cell_at, next_at}
 use Rattle.serial_recursion.specs.Recursions.{KnowsTables}
-use Rattle.serial_recursion.specs.Rows.{period_of, value_at}
+use Rattle.serial_recursion.specs.Rows.{period_of}
 use Rattle.serial_recursion.proofs.Begun.{before_row}
 use Rattle.serial_recursion.proofs.Frames.{readable, low_cap, width_most}
 

@@ -1,25 +1,24 @@
 -- A valid instance leaves room for all numbers of a period.
-use Rattle.std.proofs.Common.{◌≡◌, ℕ, zero, suc, ◌+◌, ◌-◌, ◌*◌, ◌^◌, ◌<◌, ◌≤◌, ℤ, pos, ◌+ℤ◌, ◌-ℤ◌, ◌*ℤ◌, ◌≤ℤ◌, List, length, sum, sym, ◌∙◌, ap, arith, subst, mul-le-mul_left, mul_assoc}
+use Rattle.std.proofs.Common.{◌≡◌, ℕ, suc, ◌+◌, ◌*◌, ◌^◌, ◌<◌, ◌≤◌, ℤ, pos, ◌+ℤ◌, length, sum, sym, ◌∙◌, ap, arith, subst, mul-le-mul_left, mul_assoc}
 use Rattle.std.specs.Prelude.{unsigned_abs}
-use Rattle.std.proofs.lemmas.Int.{ints, unsigned_abs-mul}
+use Rattle.std.proofs.lemmas.Int.{unsigned_abs-mul}
 use Rattle.std.proofs.lemmas.Nat.{mul-le}
 use Rattle.demand_law.specs.Integers as Z
 use Rattle.demand_law.specs.Law.{IsLaw}
-use Rattle.demand_law.specs.Sequences.{greatest_in}
 use Rattle.decision_model.specs.DemandLaws.{common_total}
 use Rattle.decision_model.specs.LawFacts.{common_total_in_range, greatest_in_range}
-use Rattle.decision_model.specs.Serial.{IsReadableSerial, IsValidSerial, serial_low, serial_positions, serial_cost_bound}
+use Rattle.decision_model.specs.Serial.{IsValidSerial, serial_low, serial_positions, serial_cost_bound}
 use Rattle.decision_model.specs.SerialProblem.{law_of_period, unit_of, lacking_rate}
 use Rattle.decision_model.specs.declared.serial.Serial.{Serial}
-use Rattle.value_cert.specs.SerialValues.{scale, own, order_cost, row_width}
+use Rattle.value_cert.specs.SerialValues.{scale, order_cost, row_width}
 use Rattle.serial_lemmas.specs.BoundedValues.{AreBounded, bounded_costs, bound_fits}
 use Rattle.serial_lemmas.specs.Levels.{size_bound}
 use Rattle.serial_lemmas.specs.Sizes.{entry_most, factor, factor_first}
-use Rattle.serial_lemmas.specs.ValueSizes.{IsAt, reach, near, own_size, rates_first, order_most, bound_width, most}
+use Rattle.serial_lemmas.specs.ValueSizes.{IsAt, reach, near, own_size, rates_first, order_most, bound_width}
 use Rattle.serial_recursion.specs.Rows.{IsFrame, HasRoom, HasValueRoom, rates_for, stock_sum}
 use Rattle.serial_recursion.specs.declared.frame.Frame.{Frame}
 use Rattle.serial_recursion.proofs.Frames.{readable, sound, place_on, low_cap, width_most, width_next, own_fits, own_next}
-use Rattle.serial_recursion.proofs.Period.{t, n, t_some, in_time, suc_n, scale_is, own_scale_is, position_is, total_is, own_is}
+use Rattle.serial_recursion.proofs.Period.{t, n, t_some, in_time, scale_is, own_scale_is, position_is, total_is, own_is}
 
 module _ (serial : Serial) (valid : IsValidSerial serial) where
   abbrev far : ℕ

@@ -1,9 +1,9 @@
 -- What lacks at the places of a grid, over all demands.
-use Rattle.std.proofs.Common.{◌≡◌, ℕ, ◌+◌, ◌-◌, ◌*◌, ◌^◌, ◌<◌, ◌≤◌, lit≤, ℤ, pos, ◌+ℤ◌, ◌-ℤ◌, ◌*ℤ◌, List, length, sum, sym, ◌∙◌, ap, subst, arith}
+use Rattle.std.proofs.Common.{◌≡◌, ℕ, ◌+◌, ◌*◌, ◌^◌, ◌≤◌, ℤ, pos, ◌+ℤ◌, ◌-ℤ◌, ◌*ℤ◌, List, length, sum, sym, ◌∙◌, ap, subst, arith}
 use Rattle.std.specs.Prelude.{unsigned_abs}
-use Rattle.std.proofs.lemmas.Int.{ints, clamps}
+use Rattle.std.proofs.lemmas.Int.{ints}
 use Rattle.std.proofs.lemmas.Nat.{mul-le}
-use Rattle.demand_law.specs.Law.{weighted, greatest_of}
+use Rattle.demand_law.specs.Law.{greatest_of}
 use Rattle.decision_model.specs.Positions.{above_zero}
 use Rattle.decision_model.specs.PositionTests.{above_zero_mono}
 use Rattle.decision_model.specs.Stock.{HasRoom, stock_cost}

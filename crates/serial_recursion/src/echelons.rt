@@ -1,15 +1,14 @@
 // The rows of an echelon when it is begun.
-ghost use Rattle.std.specs.Prelude.{◌≡◌, ℕ, ◌+◌, ◌-◌, ◌*◌, ◌^◌, ◌<◌, ◌≤◌, length, unsigned_abs};
-ghost use Rattle.std.specs.List.{list_all, range_with_len};
+ghost use Rattle.std.specs.Prelude.{◌≡◌, ℕ, ◌+◌, ◌-◌, ◌*◌, ◌^◌, ◌<◌, ◌≤◌, length, unsigned_abs, IfSome, MatchOption};
 ghost use Rattle.newsvendor.specs.Least.{first_least_upto};
 ghost use Rattle.decision_model.specs.Serial.{IsValidSerial, serial_positions};
 ghost use Rattle.decision_model.specs.SerialProblem.{law_of_period, unit_of};
 ghost use Rattle.serial_recursion.specs.Periods.{AreTables, IsBounded, IsWritten};
-ghost use Rattle.serial_recursion.specs.Rows.{HasRoom, IsFrame, charge_of, period_of, place_cost, place_value, rates_for, row_at, turns_from, value_at};
+ghost use Rattle.serial_recursion.specs.Rows.{HasRoom, IsFrame, charge_of, period_of, place_cost, place_value, rates_for, row_at, value_at};
 
 use crate::frame::Frame;
 use crate::laws::weights_of;
-use crate::levels::{least_place, turns_at};
+use crate::levels::place_or_least;
 use crate::orders::order_row;
 use crate::rates::rates_of;
 use crate::rows::store_row;
@@ -82,48 +81,15 @@ fn end_rows(
     store_row(charges, frame.count, values, start);
 }
 
-// Begins an echelon whose level is at a place, and says whether its costs of orders turn there. The echelon before has its
-// level at another place.
-pub(crate) fn begin_at(
+// Begins an echelon whose level is at the given place, or with none given at the first one at which its costs of orders are
+// least, and says which it is. The echelon before has its level at another place.
+pub(crate) fn begin_echelon(
     serial: &Serial,
     frame: &Frame,
     periods: u32,
     echelon: usize,
     level: usize,
-    next: usize,
-    values: &mut [i128],
-    costs: &mut [i128],
-    charges: &mut [i128],
-) -> bool
-    requires valid { IsValidSerial serial.now }
-    requires some { 1 ≤ periods }
-    requires within { periods ≤ serial.now.periods }
-    requires echelon { echelon < length serial.now.holding }
-    requires tables { AreTables serial.now values.old costs.old charges.old }
-    requires frame { IsFrame serial.now periods frame.now }
-    requires level { 1 ≤ echelon → level < frame.now.count }
-    requires next { next < frame.now.count }
-    requires bounded { ∥ IsBounded serial.now periods echelon values.old costs.old level ∥₁ }
-    ensures tables { AreTables serial.now values.new costs.new charges.new }
-    ensures written { IsWritten serial.now frame.now (period_of serial.now periods) echelon values.old costs.old level values.new costs.new next }
-    ensures turns { result ≡ list_all (turns_from (value_at costs.new) next) (range_with_len 0 (frame.now.count - 1)) }
-{
-    begin_rows(
-        serial, frame, periods, echelon, level, values, costs, charges,
-    );
-    end_rows(
-        serial, frame, periods, echelon, next, values, costs, charges,
-    );
-    turns_at(costs, next, frame.count)
-}
-
-// Begins an echelon with the first place at which its costs of orders are least as that of its level, and says which it is.
-pub(crate) fn begin_least(
-    serial: &Serial,
-    frame: &Frame,
-    periods: u32,
-    echelon: usize,
-    level: usize,
+    given: Option<usize>,
     values: &mut [i128],
     costs: &mut [i128],
     charges: &mut [i128],
@@ -135,15 +101,16 @@ pub(crate) fn begin_least(
     requires tables { AreTables serial.now values.old costs.old charges.old }
     requires frame { IsFrame serial.now periods frame.now }
     requires level { 1 ≤ echelon → level < frame.now.count }
+    requires given { IfSome given (λ place. place < frame.now.count) }
     requires bounded { ∥ IsBounded serial.now periods echelon values.old costs.old level ∥₁ }
     ensures tables { AreTables serial.now values.new costs.new charges.new }
     ensures written { IsWritten serial.now frame.now (period_of serial.now periods) echelon values.old costs.old level values.new costs.new result }
-    ensures least { result ≡ first_least_upto (value_at costs.new) (frame.now.count - 1) }
+    ensures place { MatchOption given (result ≡ first_least_upto (value_at costs.new) (frame.now.count - 1)) (λ place. result ≡ place) }
 {
     begin_rows(
         serial, frame, periods, echelon, level, values, costs, charges,
     );
-    let next = least_place(costs, frame.count);
+    let next = place_or_least(given, costs, frame.count);
     end_rows(
         serial, frame, periods, echelon, next, values, costs, charges,
     );

@@ -1,5 +1,5 @@
 // The levels of an echelon by its costs of orders.
-ghost use Rattle.std.specs.Prelude.{◌≡◌, ◌+◌, ◌-◌, ◌<◌, ◌≤◌, length, int_lt, if◌then◌else◌};
+ghost use Rattle.std.specs.Prelude.{◌≡◌, ◌+◌, ◌-◌, ◌<◌, ◌≤◌, length, int_lt, if◌then◌else◌, IfSome, MatchOption};
 ghost use Rattle.std.specs.List.{list_all, range_with_len};
 ghost use Rattle.newsvendor.specs.Least.{first_least_upto};
 ghost use Rattle.serial_recursion.specs.Rows.{turns_from, value_at};
@@ -18,7 +18,7 @@ fn better(costs: &[i128], place: usize, next: usize) -> usize
 }
 
 // The first of so many places at which the costs are least.
-pub(crate) fn least_place(costs: &[i128], count: usize) -> usize
+fn least_place(costs: &[i128], count: usize) -> usize
     requires some { 0 < count }
     requires costs { count ≤ length costs.now }
     ensures exact { result ≡ first_least_upto (value_at costs.now) (count - 1) }
@@ -29,6 +29,20 @@ pub(crate) fn least_place(costs: &[i128], count: usize) -> usize
         least = better(costs, least, place);
     }
     least
+}
+
+// The given place, or with none given the first of so many at which the costs are least.
+pub(crate) fn place_or_least(given: Option<usize>, costs: &[i128], count: usize) -> usize
+    requires some { 0 < count }
+    requires costs { count ≤ length costs.now }
+    requires given { IfSome given (λ place. place < count) }
+    ensures place { MatchOption given (result ≡ first_least_upto (value_at costs.now) (count - 1)) (λ place. result ≡ place) }
+    ensures within { result < count }
+{
+    match given {
+        Some(place) => place,
+        None => least_place(costs, count),
+    }
 }
 
 // Whether the costs don't rise from a place to the next one below the level's place, or don't fall from it on.

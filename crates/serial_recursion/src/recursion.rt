@@ -1,11 +1,13 @@
 // The recursion from the last period to the first, and in each from the first echelon on.
-ghost use Rattle.std.specs.Prelude.{◌≡◌, ℕ, ℤ, ◌+◌, ◌-◌, ◌^◌, ◌<◌, ◌≤◌, ◌+ℤ◌, ◌≤ℤ◌, pos, true, length, unsigned_abs};
+ghost use Rattle.std.specs.Prelude.{◌≡◌, ℕ, ℤ, ◌+◌, ◌-◌, ◌^◌, ◌<◌, ◌≤◌, ◌+ℤ◌, ◌≤ℤ◌, pos, true, length, unsigned_abs, IfSome, MatchOption};
 ghost use Rattle.decision_model.specs.Serial.{IsValidSerial};
-ghost use Rattle.serial_recursion.specs.Periods.{AreTables, IsBounded, IsFresh};
-ghost use Rattle.serial_recursion.specs.Rows.{IsFrame, period_of};
+ghost use Rattle.newsvendor.specs.Least.{first_least_upto};
+ghost use Rattle.serial_recursion.specs.Periods.{AreTables, IsBounded, IsFresh, IsWritten};
+ghost use Rattle.serial_recursion.specs.Rows.{IsFrame, period_of, turns_from, value_at};
 
-use crate::echelons::{begin_at, begin_least};
+use crate::echelons::begin_echelon;
 use crate::frame::{Frame, end_frame, next_frame};
+use crate::levels::turns_at;
 use crate::numbers::position_at;
 use crate::rows::clear;
 use decision_model::Serial;
@@ -188,6 +190,48 @@ impl<'a> Recursion<'a> {
         self.cells = 0;
     }
 
+    // Whether the costs of orders of the last echelon turn at a place.
+    fn turns_at(&self, place: usize) -> bool
+        requires begun { 1 ≤ self.now.periods }
+        requires inside { place < self.now.frame.count }
+        ensures { result ≡ list_all (turns_from (value_at self.now.costs.now) place) (range_with_len 0 (self.now.frame.count - 1)) }
+    {
+        turns_at(self.costs, place, self.frame.count)
+    }
+
+    // Begins the next echelon with its level at the given place, or with none given at the first one of least cost.
+    fn begin_next(&mut self, given: Option<usize>) -> usize
+        requires ready { is_ready (serial_of self.old) (periods_of self.old) (echelons_of self.old) (cells_of self.old) ≡ true }
+        requires given { IfSome given (λ place. place < self.old.frame.count) }
+        ensures serial { serial_of self.new ≡ serial_of self.old }
+        ensures periods { periods_of self.new ≡ periods_of self.old }
+        ensures echelons { echelons_of self.new ≡ echelons_of self.old + 1 }
+        ensures cells { cells_of self.new ≡ 0 }
+        ensures frame { self.new.frame ≡ self.old.frame }
+        ensures written { IsWritten self.old.serial.now self.old.frame (period_of self.old.serial.now self.old.periods) self.old.echelons
+            self.old.values.now self.old.costs.now self.old.level self.new.values.now self.new.costs.now result }
+        ensures place { MatchOption given (result ≡ first_least_upto (value_at self.new.costs.now) (self.old.frame.count - 1)) (λ place. result ≡ place) }
+        ensures knows { (first : FirstRows) (echelon level : ℤ) → KnowsRows self.old first →
+            serial_low (serial_of self.old) (period_of (serial_of self.old) (periods_of self.old)) +ℤ pos result ≡ level →
+            KnowsRows self.new (named_rows first (Echelon echelon level)) }
+    {
+        let place = begin_echelon(
+            self.serial,
+            &self.frame,
+            self.periods,
+            self.echelons,
+            self.level,
+            given,
+            self.values,
+            self.costs,
+            self.charges,
+        );
+        self.echelons += 1;
+        self.cells = 0;
+        self.level = place;
+        place
+    }
+
     /// Begins the next echelon with a level, and says whether its costs of orders turn there: whether they don't rise up to
     /// it and don't fall from it on.
     pub fn begin_echelon(&mut self, level: i128) -> bool
@@ -202,21 +246,8 @@ impl<'a> Recursion<'a> {
         ensures knows { (first : FirstRows) (echelon : ℤ) → KnowsRows self.old first → KnowsRows self.new (named_rows first (Echelon echelon level)) }
     {
         let place = level_place(self.frame.low, level);
-        let turns = begin_at(
-            self.serial,
-            &self.frame,
-            self.periods,
-            self.echelons,
-            self.level,
-            place,
-            self.values,
-            self.costs,
-            self.charges,
-        );
-        self.echelons += 1;
-        self.cells = 0;
-        self.level = place;
-        turns
+        self.begin_next(Some(place));
+        self.turns_at(place)
     }
 
     /// Begins the next echelon with the least level at which its costs of orders are least, and says which it is.
@@ -230,20 +261,9 @@ impl<'a> Recursion<'a> {
             result ≡ levels_for (serial_of self.old) (order_cost (serial_of self.old) first.later (first.periods - 1) (last_period (serial_of self.old) first)) (last_period (serial_of self.old) first) first.echelons }
         ensures knows { (first : FirstRows) (echelon : ℤ) → KnowsRows self.old first → KnowsRows self.new (named_rows first (Echelon echelon result)) }
     {
-        let place = begin_least(
-            self.serial,
-            &self.frame,
-            self.periods,
-            self.echelons,
-            self.level,
-            self.values,
-            self.costs,
-            self.charges,
-        );
-        self.echelons += 1;
-        self.cells = 0;
-        self.level = place;
-        position_at(self.frame.low, place)
+        let low = self.frame.low;
+        let place = self.begin_next(None);
+        position_at(low, place)
     }
 
     /// The value of the last echelon at its next position, by its level and that of the echelon before.

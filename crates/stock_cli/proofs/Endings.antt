@@ -1,13 +1,12 @@
 -- How a run ends by what its inputs hold.
-use Rattle.std.proofs.Common.{inl, ◌≡◌, ℕ, ◌≤◌, List, length, Option, Some, None, Result, Ok, IfSome, IsSome, IsSomeAnd, refl, sym, subst, arith, ◌∙◌, ap}
+use Rattle.std.proofs.Common.{inl, ◌≡◌, ℕ, ◌≤◌, List, length, Option, Some, None, Result, Ok, IfSome, IsSome, refl, sym, subst, arith, ◌∙◌, ap}
 use Rattle.std.proofs.lemmas.Bool.{le-ltb}
 use Rattle.decision_model.specs.declared.instance.Instance.{Instance}
-use Rattle.instance_json.specs.Reads.{reads}
 use Rattle.value_cert.specs.Breaches.{Breach, text_breach}
 use Rattle.value_cert.specs.Meaning.{solved_cert}
 use Rattle.value_cert.specs.declared.cert.Cert.{Cert}
-use Rattle.cert_check.specs.Verdicts.{verdict_of}
-use Rattle.cert_check.specs.declared.verdicts.Verdict.{Verdict}
+use Rattle.line_check.specs.Verdicts.{verdict_of}
+use Rattle.line_check.specs.declared.verdict.Verdict.{Verdict}
 use Rattle.report_text.specs.declared.faults.Fault.{Fault}
 use Rattle.report_text.specs.declared.faults.Fault.TheVariants as fault
 use Rattle.stock_edge.specs.HeldFiles.{Held}
@@ -81,14 +80,6 @@ is_standard (Some name) not_file = absurd (not_file name refl)
 pub stands_said : (content : Content) (instance : Instance) → IfSome content (λ found. SaysInstance found instance) → IsBuilt instance → IfSome content Stands
 stands_said None instance said built = tt
 stands_said (Some found) instance said built = record { instance = instance; said = said; built = built }
-
--- a content says one instance
-pub says_same : (content : Content) (one other : Instance) → IfSome content (λ found. SaysInstance found one) → IsSomeAnd content (λ found. SaysInstance found other) → one ≡ other
-says_same None one other first second = absurd second
-says_same (Some found) one other first second =
-    let bytes : first.bytes ≡ second.bytes = cc (sym first.told ∙ second.told) in
-    let said : Ok one ≡ reads second.bytes = sym first.said ∙ ap reads bytes in
-    cc (said ∙ second.said)
 
 -- what a check that accepts claims of its two inputs
 pub compare_claims : (content cert cert_then : Content) (instance : Instance) → IfSome content (λ found. SaysInstance found instance) → cert_then ≡ cert → HoldsCertificate cert_then instance → IfSome content (λ found. OfInstance found (HoldsCertificate cert))

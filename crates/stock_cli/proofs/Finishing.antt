@@ -1,8 +1,7 @@
 -- What the output of a run that is done claims, by what its plan does.
-use Rattle.std.proofs.Common.{◌≡◌, inl, inr, ℕ, List, Option, Some, None, Result, Ok, Err, IfSome, String, refl, sym, subst, ◌∙◌}
+use Rattle.std.proofs.Common.{◌≡◌, inl, inr, ℕ, List, Option, Some, None, Result, Ok, IfSome, String, sym, subst}
 use Rattle.std.specs.declared.alloc.Global.{Global}
 use Rattle.decision_model.specs.declared.instance.Instance.{Instance}
-use Rattle.decision_model.specs.declared.instance.Instance.TheVariants as variant
 use Rattle.decision_model.specs.declared.network.Network.{Network}
 use Rattle.node_state.specs.Handed.{Handed}
 use Rattle.network_sim.specs.Houses.{rules_refusal}
@@ -11,13 +10,15 @@ use Rattle.network_sim.specs.declared.errors.SimErr.{SimErr}
 use Rattle.report_text.specs.Network.{table_text}
 use Rattle.report_text.specs.declared.faults.Fault.{Fault}
 use Rattle.stock_edge.specs.HeldFiles.{Held}
-use Rattle.stock_cli.specs.Claims.{Claims, PlanClaims, OfInstance, QuestionClaims, IsNetwork, IsReport, IsCertificate, IsTable}
+use Rattle.stock_cli.specs.Claims.{Claims, PlanClaims, OfInstance, QuestionClaims, AnswerClaims, IsReport, IsCertificate, IsTable}
 use Rattle.stock_cli.specs.Inputs.{Content, content_of, input_at}
-use Rattle.stock_cli.specs.Outcome.{Output, Plan, outcome_of, network_outcome, ran_output, refused_or}
+use Rattle.stock_cli.specs.Outcome.{Output, Plan, outcome_of, ran_output, refused_or}
 use Rattle.stock_cli.specs.Runs.{run_of}
-use Rattle.stock_cli.specs.declared.commands.Question.TheVariants as question
-use Rattle.stock_cli.specs.declared.words.Command.{Command}
-use Rattle.stock_cli.specs.declared.words.Command.TheVariants as command
+use Rattle.stock_cli.specs.declared.asked.About.TheVariants as about
+use Rattle.stock_cli.specs.declared.asked.Asked.{Asked}
+use Rattle.stock_cli.specs.declared.asked.Asked.TheVariants as asked
+use Rattle.stock_cli.specs.declared.asked.Question.{Question}
+use Rattle.stock_cli.specs.declared.asked.Question.TheVariants as question
 use Rattle.stock_cli.proofs.Simulations.{is_table}
 
 -- a claim of whatever instance the content is
@@ -59,17 +60,18 @@ table_claimed handed (inr net) output is silent i claims =
     let I : Instance → Type 0 = IsTable (table_text net handed) handed in
     subst T (sym text) (subst I (sym claims.is) (is_table net handed claims.valid))
 
-pub claims_finished : (left : Option (List ℕ)) (held : Option Held) (words : List (String Global)) (handed : List Handed) (plan : Plan) (output : Output) (asked : Command) →
-    outcome_of handed (Ok plan) ≡ Ok output → output.message ≡ None → PlanClaims left held words plan asked → Claims left held words handed output.text asked
-claims_finished left held words handed plan output (command.Solve place) is silent claims =
-    of_weaker (content_of left held (input_at words place)) (QuestionClaims question.Solve plan) (IsReport output.text) (report_claimed handed plan output is) claims
-claims_finished left held words handed plan output (command.Certify place) is silent claims =
-    of_weaker (content_of left held (input_at words place)) (QuestionClaims question.Certify plan) (IsCertificate output.text) (certificate_claimed handed plan output is) claims
-claims_finished left held words handed plan output (command.Demand place) is silent claims = tt
-claims_finished left held words handed plan output (command.Simulate place) is silent claims =
-    of_weaker (content_of left held (input_at words place)) (QuestionClaims question.Simulate plan) (IsTable output.text handed) (table_claimed handed plan output is silent) claims
-claims_finished left held words handed plan output (command.Check None None) is silent claims = tt
-claims_finished left held words handed plan output (command.Check None (Some cert)) is silent claims = claims
-claims_finished left held words handed plan output (command.Check (Some place) cert) is silent claims = claims
-claims_finished left held words handed plan output (command.Trial number) is silent claims = tt
-claims_finished left held words handed plan output command.Help is silent claims = tt
+answer_claimed : (asking : Question) (handed : List Handed) (plan : Plan) (output : Output) → outcome_of handed (Ok plan) ≡ Ok output → output.message ≡ None → (i : Instance) → QuestionClaims asking plan i → AnswerClaims asking output.text handed i
+answer_claimed question.Solve handed plan output is silent i claims = report_claimed handed plan output is i claims
+answer_claimed question.Certify handed plan output is silent i claims = certificate_claimed handed plan output is i claims
+answer_claimed question.Demand handed plan output is silent i claims = tt
+answer_claimed question.Simulate handed plan output is silent i claims = table_claimed handed plan output is silent i claims
+
+pub claims_finished : (left : Option (List ℕ)) (held : Option Held) (words : List (String Global)) (handed : List Handed) (plan : Plan) (output : Output) (asking : Asked) →
+    outcome_of handed (Ok plan) ≡ Ok output → output.message ≡ None → PlanClaims left held words plan asking → Claims left held words handed output.text asking
+claims_finished left held words handed plan output (asked.One about.Kinds asking place) is silent claims =
+    of_weaker (content_of left held (input_at words place)) (QuestionClaims asking plan) (AnswerClaims asking output.text handed) (answer_claimed asking handed plan output is silent) claims
+claims_finished left held words handed plan output (asked.Two about.Kinds place cert) is silent claims = claims
+claims_finished left held words handed plan output (asked.One (about.Part p) asking place) is silent claims = tt
+claims_finished left held words handed plan output (asked.Two (about.Part p) place cert) is silent claims = tt
+claims_finished left held words handed plan output (asked.Number number) is silent claims = tt
+claims_finished left held words handed plan output asked.Nothing is silent claims = tt

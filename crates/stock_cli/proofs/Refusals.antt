@@ -2,20 +2,19 @@
 use Rattle.std.proofs.Common.{◌≡◌, ◌⊎◌, ℕ, List, Option, Some, None, Result, Ok, Err, IfSome, IsOk, IsSome, String, refl, sym, subst, inl, inr, ◌∙◌, ap}
 use Rattle.std.specs.declared.alloc.Global.{Global}
 use Rattle.std.specs.Io.KnownBytes.{Appends}
-use Rattle.instance_json.specs.declared.fault.InstanceFault.{InstanceFault}
-use Rattle.instance_json.specs.declared.fault.InstanceFault.TheVariants as instance_fault
+use Rattle.json_forms.specs.declared.fault.InstanceFault.{InstanceFault}
+use Rattle.json_forms.specs.declared.fault.InstanceFault.TheVariants as instance_fault
 use Rattle.node_state.specs.Handed.{Handed}
 use Rattle.report_text.specs.declared.faults.Fault.{Fault}
 use Rattle.report_text.specs.declared.faults.Fault.TheVariants as fault
 use Rattle.stock_edge.specs.Causes.{Rose, AppendsPrefix}
 use Rattle.stock_edge.specs.Known.{appends_none, prefix_none}
-use Rattle.stock_cli.specs.Causes.{Counts, RoseAt, FailsOne, IsUnread, IsRefused, IsToldOf, IsCause, IsTold, words_fault, read_fault, command_fault}
+use Rattle.stock_cli.specs.Causes.{Counts, RoseAt, FailsOne, IsUnread, IsRefused, IsToldOf, IsCause, IsTold, words_fault, read_fault}
 use Rattle.stock_cli.specs.Inputs.{Origin}
 use Rattle.stock_cli.specs.Outcome.{Ending, Output, Planned, finished, message_of, outcome_of, text_of, status_of_outcome}
 use Rattle.stock_cli.specs.Status.{IsDecided, instance_status, status_of, word_fault}
 use Rattle.stock_cli.specs.Words.{command_of}
 use Rattle.stock_cli.specs.declared.words.Command.{Command}
-use Rattle.stock_cli.specs.declared.words.Command.TheVariants as command
 use Rattle.stock_cli.specs.declared.words.WordErr.{WordErr}
 use Rattle.stock_cli.specs.declared.words.WordErr.TheVariants as words
 use Rattle.stock_cli.specs.declared.status.Status.{Status}
@@ -114,6 +113,7 @@ refusal_message counts ending reads given f before now old new h t =
 word_status : (e : WordErr) → status_of (word_fault e) ≡ status.Words
 word_status words.NoCommand = refl
 word_status words.UnknownCommand = refl
+word_status words.UnknownAction = refl
 word_status (words.TooFew word) = refl
 word_status (words.TooMany word) = refl
 word_status (words.EmptyName word) = refl
@@ -121,19 +121,8 @@ word_status (words.NoOption word) = refl
 word_status (words.BadNumber word) = refl
 word_status (words.TwoInputs word) = refl
 
-command_status : (c : Command) (f : Fault) → command_fault c ≡ Some f → status_of f ≡ status.Words
-command_status (command.Solve at) f e = absurd (cc e)
-command_status (command.Certify at) f e = absurd (cc e)
-command_status (command.Demand at) f e = absurd (cc e)
-command_status (command.Simulate at) f e = absurd (cc e)
-command_status (command.Check None None) f e = let same : f ≡ fault.TwoInputs 3 = cc e in ap status_of same
-command_status (command.Check None (Some cert)) f e = absurd (cc e)
-command_status (command.Check (Some at) cert) f e = absurd (cc e)
-command_status (command.Trial number) f e = absurd (cc e)
-command_status command.Help f e = absurd (cc e)
-
 read_status : (r : Result Command WordErr) (f : Fault) → read_fault r ≡ Some f → status_of f ≡ status.Words
-read_status (Ok c) f e = command_status c f e
+read_status (Ok c) f e = absurd (cc e)
 read_status (Err w) f e = let same : f ≡ word_fault w = cc e in ap status_of same ∙ word_status w
 
 -- words with a fault are refused with the status of the words, or for want of memory

@@ -1,5 +1,5 @@
 -- What a simulation writes, period by period.
-use Rattle.std.proofs.Common.{◌≡◌, ◌≢◌, ℕ, zero, suc, ◌+◌, ◌-◌, ◌≤◌, ◌<◌, List, [], ◌++◌, length, take, drop, Bool, true, false, if◌then◌else◌, ◌==◌, Result, Ok, Err, Some, None, OnOk, IfErr, append_assoc, refl, sym, ap, ◌∙◌, subst, arith}
+use Rattle.std.proofs.Common.{◌≡◌, ℕ, zero, suc, ◌+◌, ◌-◌, ◌≤◌, ◌<◌, List, [], ◌++◌, length, take, Bool, true, false, if◌then◌else◌, ◌==◌, Result, Ok, Err, Some, None, OnOk, IfErr, append_assoc, refl, sym, ap, ◌∙◌, subst, arith}
 use Rattle.std.specs.declared.option.Option.{Option}
 use Rattle.std.specs.Io.KnownBytes.{Appends}
 use Rattle.std.proofs.lemmas.Bool.Decides.{nat_tests}
@@ -19,9 +19,9 @@ use Rattle.network_sim.specs.ValidNetworks.{shaped_nodes}
 use Rattle.network_sim.specs.declared.errors.RuleOver.{RuleOver}
 use Rattle.network_sim.specs.declared.sim.Sim.{Sim}
 use Rattle.stock_edge.specs.Causes.{AppendsPrefix}
-use Rattle.stock_edge.specs.Known.{appends_more, prefix_longer, prefix_none, prefix_whole}
+use Rattle.stock_edge.specs.Known.{appends_more, prefix_longer, prefix_whole}
 use Rattle.stock_cli.specs.Claims.{IsTable}
-use Rattle.stock_cli.specs.Runs.{Run, run_of, run_text, run_further, next_run, last_text, lines_and_total, IsCut, IsCutShort, RanAll, RanPeriod, Stands, StandsForSome}
+use Rattle.stock_cli.specs.Runs.{Run, run_of, run_text, run_further, lines_and_total, IsCut, IsCutShort, RanAll, RanPeriod, Stands, StandsForSome}
 use Rattle.stock_cli.specs.declared.runs.RunErr.{RunErr}
 use Rattle.stock_cli.specs.declared.runs.RunErr.TheVariants.{Over, Write, Memory}
 

@@ -11,11 +11,11 @@ use Rattle.network_sim.specs.declared.sim.Sim.{Sim}
 use Rattle.report_text.specs.declared.faults.Fault.{Fault}
 use Rattle.report_text.specs.declared.faults.Fault.TheVariants as fault
 use Rattle.stock_edge.specs.Causes.{AppendsPrefix}
-use Rattle.stock_edge.specs.Known.{appends_none, prefix_none}
+use Rattle.stock_edge.specs.Known.{appends_none}
 use Rattle.stock_cli.specs.Causes.{Counts, IsToldOf, IsCause, IsTold}
 use Rattle.stock_cli.specs.Inputs.{Origin}
 use Rattle.stock_cli.specs.Outcome.{Ending, Output, Plan, Planned, finished, outcome_of, ran_output, run_outcome, refused_or, network_outcome, message_of, status_of_outcome, text_of, Finishes, EndsWith, EndsBy}
-use Rattle.stock_cli.specs.Runs.{Run, run_of, run_text, ended_text, run_fault, sim_fault, IsRefusedBy, RanAll}
+use Rattle.stock_cli.specs.Runs.{run_of, run_text, ended_text, run_fault, sim_fault, IsRefusedBy, RanAll}
 use Rattle.stock_cli.specs.Status.{IsDecided, IsOfWriting, status_of}
 use Rattle.stock_cli.specs.declared.runs.RunErr.{RunErr}
 use Rattle.stock_cli.specs.declared.runs.RunErr.TheVariants as cut

@@ -8,10 +8,10 @@ use Rattle.value_cert.specs.Breaches.{Breach, text_breach}
 use Rattle.value_cert.specs.Texts.{lines_text}
 use Rattle.cert_check.specs.Meaning.{IsCertified}
 use Rattle.cert_check.specs.TextChecks.{IsTextCheckOf, Tells, last_verdict}
-use Rattle.cert_check.specs.Verdicts.{verdict_of, is_rejection}
+use Rattle.line_check.specs.Verdicts.{verdict_of, is_rejection}
 use Rattle.cert_check.specs.declared.text_check.TextCheck.{TextCheck}
-use Rattle.cert_check.specs.declared.verdicts.Verdict.{Verdict}
-use Rattle.cert_check.specs.declared.verdicts.Verdict.TheVariants.{Going, Accepted, Rejected}
+use Rattle.line_check.specs.declared.verdict.Verdict.{Verdict}
+use Rattle.line_check.specs.declared.verdict.Verdict.TheVariants.{Going, Accepted, Rejected}
 use Rattle.report_text.specs.declared.faults.Fault.TheVariants as fault
 use Rattle.stock_edge.specs.HeldFiles.{Held, GivesHeld}
 use Rattle.stock_edge.specs.Known.{consumes_kept, consumes_more, consumes_none}
@@ -40,7 +40,7 @@ passes_longer instance bytes piece most more p le =
 -- a check that reads on stands for lines that all pass, and for less than a line behind them
 reading_passes : (instance : Instance) (check : TextCheck) (bytes : List ℕ) → IsTextCheckOf instance check bytes → is_rejection (last_verdict check) ≡ false → PassesUpTo instance bytes 128
 reading_passes instance check bytes h e =
-    let reading = h.reading e in
+    let reading = h.stands.reading e in
     record { lines = reading.lines; pass = reading.unbroken; behind = _; text_is = reading.read.text; within = omega (arith, reading.short.short) }
 
 pub takes_none : (instance : Instance) (left : Option (List ℕ)) → Reaches instance left left

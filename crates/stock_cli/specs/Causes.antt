@@ -10,49 +10,41 @@ use Rattle.stock_edge.specs.Causes.{Rose, AppendsPrefix}
 use Rattle.stock_edge.specs.HeldFiles.{Held, IsNotHeld}
 use Rattle.stock_edge.specs.declared.FileFault.{FileFault}
 use Rattle.stock_edge.specs.declared.FileFault.TheVariants as file
+use Rattle.stock_cli.specs.Asks.{asked_of, IsComparison, IsInputOf}
 use Rattle.stock_cli.specs.Inputs.{Content, Origin, SaysInstance, content_of, input_at, input_name}
 use Rattle.stock_cli.specs.Solvers.{IsBuilt}
 use Rattle.stock_cli.specs.Outcome.{Ending, Planned, instance_ending, message_of, question_outcome}
 use Rattle.stock_cli.specs.Status.{IsDecided, status_of, word_fault}
 use Rattle.stock_cli.specs.Words.{command_of}
-use Rattle.stock_cli.specs.declared.commands.Question.{Question}
+use Rattle.stock_cli.specs.declared.asked.About.{About}
+use Rattle.stock_cli.specs.declared.asked.About.TheVariants as about
+use Rattle.stock_cli.specs.declared.asked.Asked.{Asked}
+use Rattle.stock_cli.specs.declared.asked.Asked.TheVariants as asked
+use Rattle.stock_cli.specs.declared.asked.Question.{Question}
 use Rattle.stock_cli.specs.declared.certificates.Unchecked.{Unchecked}
 use Rattle.stock_cli.specs.declared.certificates.Unchecked.TheVariants as unchecked
 use Rattle.stock_cli.specs.declared.words.Command.{Command}
-use Rattle.stock_cli.specs.declared.words.Command.TheVariants as command
 use Rattle.stock_cli.specs.declared.words.WordErr.{WordErr}
 use Rattle.stock_cli.specs.declared.status.Status.{Status}
 use Rattle.stock_cli.specs.declared.status.Status.TheVariants as status
 
--- ---- faults of the words
-abbrev pub command_fault : Command → Option Fault
-command_fault (command.Check None None) = Some (fault.TwoInputs 3)
-command_fault _ = None
-
+-- ---- the words
 abbrev pub read_fault : Result Command WordErr → Option Fault
-read_fault (Ok command) = command_fault command
+read_fault (Ok command) = None
 read_fault (Err e) = Some (word_fault e)
 
 -- the fault of a run's words, if they have one
 abbrev pub words_fault : List (String Global) → Option Fault
 words_fault words = read_fault (command_of words)
 
--- ---- the inputs of a command
-abbrev pub IsInputOf : Command → Option ℕ → Type 0
-IsInputOf (command.Solve input) place = place ≡ input
-IsInputOf (command.Certify input) place = place ≡ input
-IsInputOf (command.Demand input) place = place ≡ input
-IsInputOf (command.Simulate input) place = place ≡ input
-IsInputOf (command.Check instance cert) place = (place ≡ instance) ⊎ (place ≡ cert)
-IsInputOf _ place = ⊥
-
 -- the command checks a certificate
 abbrev pub IsCheck : Result Command WordErr → Type 0
-IsCheck (Ok (command.Check instance cert)) = Unit {0}
-IsCheck _ = ⊥
+IsCheck (Ok command) = IsComparison (asked_of command)
+IsCheck (Err e) = ⊥
 
+-- the command has this input
 abbrev pub TakesInput : Result Command WordErr → Option ℕ → Type 0
-TakesInput (Ok command) place = IsInputOf command place
+TakesInput (Ok command) place = IsInputOf (asked_of command) place
 TakesInput (Err e) place = ⊥
 
 -- ---- the inputs that a run comes to read
@@ -66,17 +58,19 @@ pub record Stands (found : Result (List ℕ) Fault) : Type 0 where
 abbrev pub ComparesInput : Content → Origin → Origin → Origin → Type 0
 ComparesInput content instance cert = λ input. (input ≡ instance) ⊎ ((input ≡ cert) × IfSome content Stands)
 
-abbrev pub ComesTo : Option (List ℕ) → Option Held → List (String Global) → Command → Origin → Type 0
-ComesTo left held words (command.Solve place) = λ input. input ≡ input_at words place
-ComesTo left held words (command.Certify place) = λ input. input ≡ input_at words place
-ComesTo left held words (command.Demand place) = λ input. input ≡ input_at words place
-ComesTo left held words (command.Simulate place) = λ input. input ≡ input_at words place
-ComesTo left held words (command.Check place cert) = ComparesInput (content_of left held (input_at words place)) (input_at words place) (input_at words cert)
+-- a part that isn't built reads nothing
+abbrev pub ComparesAbout : About → Content → Origin → Origin → Origin → Type 0
+ComparesAbout about.Kinds content instance cert = ComparesInput content instance cert
+ComparesAbout (about.Part p) content instance cert = λ input. ⊥
+
+abbrev pub ComesTo : Option (List ℕ) → Option Held → List (String Global) → Asked → Origin → Type 0
+ComesTo left held words (asked.One of question place) = λ input. input ≡ input_at words place
+ComesTo left held words (asked.Two of place cert) = ComparesAbout of (content_of left held (input_at words place)) (input_at words place) (input_at words cert)
 ComesTo left held words _ = λ input. ⊥
 
 -- the run of these words comes to read this input
 abbrev pub ReadsInput : Option (List ℕ) → Option Held → List (String Global) → Result Command WordErr → Origin → Type 0
-ReadsInput left held words (Ok command) = ComesTo left held words command
+ReadsInput left held words (Ok command) = ComesTo left held words (asked_of command)
 ReadsInput left held words (Err e) = λ input. ⊥
 
 -- the run comes to read no file

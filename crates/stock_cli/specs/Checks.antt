@@ -7,15 +7,16 @@ use Rattle.value_cert.specs.Texts.{lines_text}
 use Rattle.value_cert.specs.declared.line.CertLine.{CertLine}
 use Rattle.cert_check.specs.Meaning.{IsCertified}
 use Rattle.cert_check.specs.TextChecks.{IsTextCheckOf}
-use Rattle.cert_check.specs.Verdicts.{verdict_of}
+use Rattle.line_check.specs.Verdicts.{verdict_of}
 use Rattle.cert_check.specs.declared.text_check.TextCheck.{TextCheck}
-use Rattle.cert_check.specs.declared.verdicts.Verdict.{Verdict}
-use Rattle.cert_check.specs.declared.verdicts.Verdict.TheVariants.{Going, Accepted, Rejected}
+use Rattle.line_check.specs.declared.verdict.Verdict.{Verdict}
+use Rattle.line_check.specs.declared.verdict.Verdict.TheVariants.{Going, Accepted, Rejected}
+use Rattle.report_text.specs.Verdicts.{accepted_text, rejection_text}
 use Rattle.report_text.specs.declared.faults.Fault.{Fault}
 use Rattle.stock_edge.specs.HeldFiles.{Held, GivesHeld}
 use Rattle.stock_edge.specs.KnownFiles.{BeginsFile}
-use Rattle.stock_cli.specs.Inputs.{Content, Origin}
-use Rattle.stock_cli.specs.Outcome.{Output, printed, rejecting, rejection_text, accepted_text}
+use Rattle.stock_cli.specs.Inputs.{Content, Origin, SaysInstance}
+use Rattle.stock_cli.specs.Outcome.{Output, printed, rejecting}
 
 -- the verdict is on a whole text
 abbrev pub IsFinal : Verdict → Type 0
@@ -56,6 +57,12 @@ pub record TakesPast (instance : Instance) (old new : Option (List ℕ)) (most :
 -- how far a check reads: a line that goes on for 128 bytes is rejected, and a piece has 4,096 bytes
 abbrev pub Reaches : Instance → Option (List ℕ) → Option (List ℕ) → Type 0
 Reaches instance old new = TakesPast instance old new 4224
+
+-- a check of a certificate on standard input reads so far, for the instance of the other input, which is the one that its content says where that is told
+pub record ReachesFor (content : Content) (old new : Option (List ℕ)) : Type 0 where
+  pub instance : Instance
+  pub said : IfSome content (λ found. SaysInstance found instance)
+  pub reaches : Reaches instance old new
 
 -- ---- the pieces of a certificate
 -- the next piece of an input, of which so many bytes came before; none only at its end

@@ -1,5 +1,5 @@
 -- What the output of a run that is done claims.
-use Rattle.std.specs.Prelude.{◌≡◌, ℕ, List, length, map, IfSome, Option, None, Result, Ok, String}
+use Rattle.std.specs.Prelude.{◌≡◌, ℕ, List, length, map, IfSome, Option, Result, Ok, String}
 use Rattle.std.proofs.Common.{inl, inr}
 use Rattle.std.specs.List.{range_with_len}
 use Rattle.std.specs.declared.alloc.Global.{Global}
@@ -20,10 +20,11 @@ use Rattle.report_text.specs.declared.faults.Fault.{Fault}
 use Rattle.stock_edge.specs.HeldFiles.{Held}
 use Rattle.stock_cli.specs.Inputs.{Content, content_of, input_at}
 use Rattle.stock_cli.specs.Outcome.{Plan}
-use Rattle.stock_cli.specs.declared.commands.Question.{Question}
-use Rattle.stock_cli.specs.declared.commands.Question.TheVariants as question
-use Rattle.stock_cli.specs.declared.words.Command.{Command}
-use Rattle.stock_cli.specs.declared.words.Command.TheVariants as command
+use Rattle.stock_cli.specs.declared.asked.About.TheVariants as about
+use Rattle.stock_cli.specs.declared.asked.Asked.{Asked}
+use Rattle.stock_cli.specs.declared.asked.Asked.TheVariants as asked
+use Rattle.stock_cli.specs.declared.asked.Question.{Question}
+use Rattle.stock_cli.specs.declared.asked.Question.TheVariants as question
 
 -- a certificate of the instance, of which this holds, names a policy than which none costs less, and its cost
 pub record NamesLeastPolicy (instance : Instance) (text_is : Cert → Type 0) : Type 0 where
@@ -79,20 +80,21 @@ HoldsCertificate content instance = IfSome content (λ told. NamesLeastPolicy in
 abbrev pub CompareClaims : Content → Content → Type 0
 CompareClaims content cert = IfSome content (λ found. OfInstance found (HoldsCertificate cert))
 
--- what the plan of a command claims, where its inputs are told: the report, the certificate that is to be written, or the one that was checked, or the network that is to run
-abbrev pub PlanClaims : Option (List ℕ) → Option Held → List (String Global) → Plan → Command → Type 0
-PlanClaims left held words plan (command.Solve place) = IfSome (content_of left held (input_at words place)) (λ found. OfInstance found (QuestionClaims question.Solve plan))
-PlanClaims left held words plan (command.Certify place) = IfSome (content_of left held (input_at words place)) (λ found. OfInstance found (QuestionClaims question.Certify plan))
-PlanClaims left held words plan (command.Simulate place) = IfSome (content_of left held (input_at words place)) (λ found. OfInstance found (QuestionClaims question.Simulate plan))
-PlanClaims left held words plan (command.Check None None) = Unit {0}
-PlanClaims left held words plan (command.Check place cert) = CompareClaims (content_of left held (input_at words place)) (content_of left held (input_at words cert))
+-- what the plan for what is asked claims, where the inputs are told: the report, the certificate that is to be written, or the one that was checked, or the network that is to run
+abbrev pub PlanClaims : Option (List ℕ) → Option Held → List (String Global) → Plan → Asked → Type 0
+PlanClaims left held words plan (asked.One about.Kinds question place) = IfSome (content_of left held (input_at words place)) (λ found. OfInstance found (QuestionClaims question plan))
+PlanClaims left held words plan (asked.Two about.Kinds place cert) = CompareClaims (content_of left held (input_at words place)) (content_of left held (input_at words cert))
 PlanClaims left held words plan _ = Unit {0}
 
--- what a command that is done claims, where its inputs are told: the report, the certificate that was written, or the one that was checked
-abbrev pub Claims : Option (List ℕ) → Option Held → List (String Global) → List Handed → List ℕ → Command → Type 0
-Claims left held words handed text (command.Solve place) = IfSome (content_of left held (input_at words place)) (λ found. OfInstance found (IsReport text))
-Claims left held words handed text (command.Certify place) = IfSome (content_of left held (input_at words place)) (λ found. OfInstance found (IsCertificate text))
-Claims left held words handed text (command.Simulate place) = IfSome (content_of left held (input_at words place)) (λ found. OfInstance found (IsTable text handed))
-Claims left held words handed text (command.Check None None) = Unit {0}
-Claims left held words handed text (command.Check place cert) = CompareClaims (content_of left held (input_at words place)) (content_of left held (input_at words cert))
+-- what the text that answers a question claims of the instance
+abbrev pub AnswerClaims : Question → List ℕ → List Handed → Instance → Type 0
+AnswerClaims question.Solve text handed instance = IsReport text instance
+AnswerClaims question.Certify text handed instance = IsCertificate text instance
+AnswerClaims question.Demand text handed instance = Unit {0}
+AnswerClaims question.Simulate text handed instance = IsTable text handed instance
+
+-- what a run that is done claims, by what was asked, where the inputs are told: the report, the certificate that was written, or the one that was checked, or the table
+abbrev pub Claims : Option (List ℕ) → Option Held → List (String Global) → List Handed → List ℕ → Asked → Type 0
+Claims left held words handed text (asked.One about.Kinds question place) = IfSome (content_of left held (input_at words place)) (λ found. OfInstance found (AnswerClaims question text handed))
+Claims left held words handed text (asked.Two about.Kinds place cert) = CompareClaims (content_of left held (input_at words place)) (content_of left held (input_at words cert))
 Claims left held words handed text _ = Unit {0}

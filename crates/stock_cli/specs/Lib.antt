@@ -1,4 +1,6 @@
+pub mod Names
 pub mod Words
+pub mod Asks
 pub mod Status
 pub mod Inputs
 pub mod Outcome

@@ -1,5 +1,5 @@
 -- How a run ends, as a function of its words, of what its inputs hold and of the rules that are handed in. It knows nothing of pieces, faults or memory.
-use Rattle.std.specs.Prelude.{◌≡◌, ◌⊎◌, ℕ, List, [], ◌++◌, length, codes, decimal, if◌then◌else◌, nat_lt, Option, Some, None, Result, Ok, Err, IsOk, String}
+use Rattle.std.specs.Prelude.{◌≡◌, ◌⊎◌, ℕ, List, [], length, if◌then◌else◌, nat_lt, Option, Some, None, Result, Ok, Err, IsOk, String}
 use Rattle.std.proofs.Common.{inl, inr}
 use Rattle.std.specs.declared.alloc.Global.{Global}
 use Rattle.std.specs.Io.KnownBytes.{Appends}
@@ -9,7 +9,7 @@ use Rattle.decision_model.specs.declared.instance.Instance.TheVariants as instan
 use Rattle.decision_model.specs.declared.network.Network.{Network}
 use Rattle.decision_model.specs.Network.{IsValidNetwork}
 use Rattle.instance_json.specs.Reads.{reads}
-use Rattle.instance_json.specs.declared.fault.InstanceFault.{InstanceFault}
+use Rattle.json_forms.specs.declared.fault.InstanceFault.{InstanceFault}
 use Rattle.value_cert.specs.Breaches.{Breach, text_breach}
 use Rattle.value_cert.specs.Meaning.{solved_cert}
 use Rattle.value_cert.specs.Texts.{HasText, cert_text}
@@ -21,9 +21,11 @@ use Rattle.network_sim.specs.declared.errors.RuleOver.{RuleOver}
 use Rattle.network_sim.specs.declared.errors.SimErr.{SimErr}
 use Rattle.report_text.specs.Network.{first_periods, table_text}
 use Rattle.report_text.specs.Reports.{report_of, help_words}
+use Rattle.report_text.specs.Verdicts.{accepted_text, rejection_text}
 use Rattle.report_text.specs.declared.faults.Fault.{Fault}
 use Rattle.report_text.specs.declared.faults.Fault.TheVariants as fault
 use Rattle.stock_edge.specs.HeldFiles.{Held}
+use Rattle.stock_cli.specs.Asks.{asked_of}
 use Rattle.stock_cli.specs.Inputs.{Content, content_of, input_at}
 use Rattle.stock_cli.specs.Runs.{Run, run_of, sim_fault}
 use Rattle.stock_cli.specs.Status.{status_of, word_fault}
@@ -33,10 +35,12 @@ use Rattle.stock_cli.specs.declared.answers.Answer.{Answer}
 use Rattle.stock_cli.specs.declared.answers.Answer.TheVariants as answer
 use Rattle.stock_cli.specs.declared.answers.Task.{Task}
 use Rattle.stock_cli.specs.declared.answers.Task.TheVariants as task
-use Rattle.stock_cli.specs.declared.commands.Question.{Question}
-use Rattle.stock_cli.specs.declared.commands.Question.TheVariants as question
+use Rattle.stock_cli.specs.declared.asked.About.TheVariants as about
+use Rattle.stock_cli.specs.declared.asked.Asked.{Asked}
+use Rattle.stock_cli.specs.declared.asked.Asked.TheVariants as asked
+use Rattle.stock_cli.specs.declared.asked.Question.{Question}
+use Rattle.stock_cli.specs.declared.asked.Question.TheVariants as question
 use Rattle.stock_cli.specs.declared.words.Command.{Command}
-use Rattle.stock_cli.specs.declared.words.Command.TheVariants as command
 use Rattle.stock_cli.specs.declared.words.WordErr.{WordErr}
 use Rattle.stock_cli.specs.declared.status.Status.{Status}
 use Rattle.stock_cli.specs.declared.status.Status.TheVariants.{Done, Rejected}
@@ -102,12 +106,6 @@ question_outcome question.Certify instance = certify_outcome instance
 question_outcome question.Demand instance = demand_outcome instance
 question_outcome question.Simulate instance = simulate_outcome instance
 
-abbrev pub accepted_text : List ℕ
-accepted_text = codes "accepted\n"
-
-abbrev pub rejection_text : ℕ → ℕ → List ℕ
-rejection_text line rule = codes "rejected line " ++ decimal line ++ codes " rule " ++ decimal rule ++ codes "\n"
-
 -- what a check says: accepted, or the line and the rule of the first breach
 abbrev pub verdict_output : Option Breach → Output
 verdict_output None = printed accepted_text
@@ -146,19 +144,17 @@ compare_ending content cert = instance_ending (λ instance. check_ending cert in
 abbrev pub question_ending : Question → Content → Planned
 question_ending question content = instance_ending (λ instance. Some (question_outcome question instance)) content
 
--- how a command ends
-abbrev pub command_ending : Option (List ℕ) → Option Held → List (String Global) → Command → Planned
-command_ending left held words (command.Solve place) = question_ending question.Solve (content_of left held (input_at words place))
-command_ending left held words (command.Certify place) = question_ending question.Certify (content_of left held (input_at words place))
-command_ending left held words (command.Demand place) = question_ending question.Demand (content_of left held (input_at words place))
-command_ending left held words (command.Check None None) = refused (fault.TwoInputs 3)
-command_ending left held words (command.Check place cert) = compare_ending (content_of left held (input_at words place)) (content_of left held (input_at words cert))
-command_ending left held words (command.Simulate place) = question_ending question.Simulate (content_of left held (input_at words place))
-command_ending left held words (command.Trial number) = Some (done (trial_text number))
-command_ending left held words command.Help = Some (done help_words)
+-- how what is asked ends; a part that isn't built is no command
+abbrev pub asked_ending : Option (List ℕ) → Option Held → List (String Global) → Asked → Planned
+asked_ending left held words (asked.One about.Kinds question place) = question_ending question (content_of left held (input_at words place))
+asked_ending left held words (asked.Two about.Kinds place cert) = compare_ending (content_of left held (input_at words place)) (content_of left held (input_at words cert))
+asked_ending left held words (asked.One (about.Part p) question place) = refused fault.UnknownCommand
+asked_ending left held words (asked.Two (about.Part p) place cert) = refused fault.UnknownCommand
+asked_ending left held words (asked.Number number) = Some (done (trial_text number))
+asked_ending left held words asked.Nothing = Some (done help_words)
 
 abbrev pub words_ending : Option (List ℕ) → Option Held → List (String Global) → Result Command WordErr → Planned
-words_ending left held words (Ok command) = command_ending left held words command
+words_ending left held words (Ok command) = asked_ending left held words (asked_of command)
 words_ending left held words (Err e) = refused (word_fault e)
 
 -- how a run ends but for the run of a network, from the bytes of standard input and the files that are held, as far as the objects tell them

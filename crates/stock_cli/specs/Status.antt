@@ -1,7 +1,7 @@
 -- What each status means.
 use Rattle.std.specs.Prelude.{ℕ}
-use Rattle.instance_json.specs.declared.fault.InstanceFault.{InstanceFault}
-use Rattle.instance_json.specs.declared.fault.InstanceFault.TheVariants as instance_fault
+use Rattle.json_forms.specs.declared.fault.InstanceFault.{InstanceFault}
+use Rattle.json_forms.specs.declared.fault.InstanceFault.TheVariants as instance_fault
 use Rattle.report_text.specs.declared.faults.Fault.{Fault}
 use Rattle.report_text.specs.declared.faults.Fault.TheVariants as fault
 use Rattle.stock_cli.specs.declared.words.WordErr.{WordErr}
@@ -59,6 +59,7 @@ status_of _ = Words
 abbrev pub word_fault : WordErr → Fault
 word_fault words.NoCommand = fault.NoCommand
 word_fault words.UnknownCommand = fault.UnknownCommand
+word_fault words.UnknownAction = fault.UnknownAction
 word_fault (words.TooFew word) = fault.TooFew word
 word_fault (words.TooMany word) = fault.TooMany word
 word_fault (words.EmptyName word) = fault.EmptyName word

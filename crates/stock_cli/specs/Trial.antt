@@ -1,6 +1,5 @@
 -- What a trial prints.
-use Rattle.std.specs.Prelude.{ℕ, List, [], ◌++◌, codes, decimal, Option, Some, None}
-use Rattle.decision_model.specs.Kind.{kind_of, kind_word}
+use Rattle.std.specs.Prelude.{ℕ, List, [], ◌++◌, Option, Some, None}
 use Rattle.decision_model.specs.declared.instance.Instance.{Instance}
 use Rattle.decision_model.specs.declared.instance.Instance.TheVariants as instance
 use Rattle.decision_model.specs.declared.network.Network.{Network}
@@ -8,10 +7,8 @@ use Rattle.node_state.specs.Table.{network_total}
 use Rattle.decision_model.specs.Valid.{IsValid}
 use Rattle.cert_check.specs.Meaning.{IsTyped}
 use Rattle.value_cert.specs.Meaning.{solved_cert}
-use Rattle.value_cert.specs.PrintedCost.{printed_cost_text}
 use Rattle.value_cert.specs.declared.cert.Cert.{Cert}
-use Rattle.value_cert.specs.declared.cert.Cert.TheVariants as cert
-use Rattle.report_text.specs.Average.{span_line}
+use Rattle.report_text.specs.Trial.{certified_line, last_line, number_line, run_line}
 use Rattle.trial_instances.specs.News.{trial_news}
 use Rattle.trial_instances.specs.Lots.{trial_lots}
 use Rattle.trial_instances.specs.Finite.{trial_finite}
@@ -19,20 +16,6 @@ use Rattle.trial_instances.specs.Average.{trial_average}
 use Rattle.trial_instances.specs.Serial.{trial_serial}
 use Rattle.trial_instances.specs.Network.{trial_network}
 use Rattle.stock_cli.specs.Solvers.{IsBuilt}
-
--- the level of a newsvendor
-abbrev pub level_part : Cert → List ℕ
-level_part (cert.News c) = codes " " ++ decimal c.q
-level_part _ = []
-
--- the span of an average cost, and the line's end
-abbrev pub line_end : Instance → Cert → List ℕ
-line_end (instance.Average average) (cert.Average c) = codes " " ++ span_line average c
-line_end _ _ = codes "\n"
-
--- the line of an instance and its certificate
-abbrev pub certified_line : Instance → Cert → List ℕ
-certified_line i c = kind_word (kind_of i) ++ level_part c ++ codes " " ++ printed_cost_text i c ++ line_end i c
 
 abbrev pub line_of : Instance → Option Cert → List ℕ
 line_of i (Some c) = certified_line i c
@@ -44,7 +27,7 @@ solved_line i = line_of i (solved_cert i)
 
 -- the line of a network, to which no rule of the caller's own is handed in
 abbrev pub network_line : Network → List ℕ
-network_line net = codes "network " ++ decimal (network_total net [] net.periods) ++ codes "\n"
+network_line net = run_line (network_total net [] net.periods)
 
 -- the instance is a network, and its line
 abbrev pub IsNetwork : Instance → Type 0
@@ -64,12 +47,9 @@ solved_lines number =
     ++ solved_line (instance.Average (trial_average number))
     ++ solved_line (instance.Serial (trial_serial number))
 
-abbrev pub first_line : ℕ → List ℕ
-first_line number = codes "trial " ++ decimal number ++ codes "\n"
-
 -- the text of the trial of a number
 unfoldable pub trial_text : ℕ → List ℕ
-trial_text number = first_line number ++ solved_lines number ++ network_line (trial_network number) ++ codes "all accepted\n"
+trial_text number = number_line number ++ solved_lines number ++ network_line (trial_network number) ++ last_line
 
 -- ---- what is tried
 -- the instance is valid, also in what its type says, and of a kind that is solved

@@ -3,23 +3,19 @@ use Rattle.std.specs.Prelude.{ℕ, ◌+◌, List, [], ◌∷◌, length, map, co
 use Rattle.std.specs.declared.alloc.Global.{Global}
 use Rattle.std.specs.Str.{bytes_eq}
 use Rattle.value_cert.specs.Parsing.{word_number}
+use Rattle.stock_cli.specs.Names.{verb_named, part_named, act_named}
+use Rattle.stock_cli.specs.declared.names.Verb.{Verb}
+use Rattle.stock_cli.specs.declared.names.Verb.TheVariants as verb
+use Rattle.stock_cli.specs.declared.names.Part.{Part}
+use Rattle.stock_cli.specs.declared.names.Part.TheVariants as part
+use Rattle.stock_cli.specs.declared.names.Act.{Act}
+use Rattle.stock_cli.specs.declared.names.Act.TheVariants as act
+use Rattle.stock_cli.specs.declared.words.Action.{Action}
+use Rattle.stock_cli.specs.declared.words.Action.TheVariants as action
 use Rattle.stock_cli.specs.declared.words.Command.{Command}
 use Rattle.stock_cli.specs.declared.words.Command.TheVariants as command
-use Rattle.stock_cli.specs.declared.words.Verb.{Verb}
-use Rattle.stock_cli.specs.declared.words.Verb.TheVariants as verb
 use Rattle.stock_cli.specs.declared.words.WordErr.{WordErr}
-use Rattle.stock_cli.specs.declared.words.WordErr.TheVariants.{NoCommand, UnknownCommand, TooFew, TooMany, EmptyName, NoOption, BadNumber, TwoInputs}
-
--- the command that a word begins
-abbrev pub verb_of : List ℕ → Option Verb
-verb_of word =
-    if bytes_eq word (codes "solve") then Some verb.Solve
-    else (if bytes_eq word (codes "certify") then Some verb.Certify
-    else (if bytes_eq word (codes "check") then Some verb.Check
-    else (if bytes_eq word (codes "demand") then Some verb.Demand
-    else (if bytes_eq word (codes "simulate") then Some verb.Simulate
-    else (if bytes_eq word (codes "trial") then Some verb.Trial
-    else (if bytes_eq word (codes "help") then Some verb.Help else None))))))
+use Rattle.stock_cli.specs.declared.words.WordErr.TheVariants.{NoCommand, UnknownCommand, UnknownAction, TooFew, TooMany, EmptyName, NoOption, BadNumber, TwoInputs}
 
 -- the name is an option's: it begins with a hyphen and has more behind it
 abbrev pub is_option : List ℕ → Bool
@@ -32,32 +28,41 @@ input_of place name =
     else (if is_option name then Err (NoOption (place + 1))
     else (if bytes_eq name (codes "-") then Ok None else Ok (Some place)))
 
--- the one input of a command, which is standard input where no name stands
-abbrev pub one_input : List (List ℕ) → Result (Option ℕ) WordErr
-one_input [] = Ok None
-one_input (name ∷ []) = input_of 1 name
-one_input (name ∷ more ∷ words) = Err (TooMany 3)
+-- ---- the words for inputs, the first of which stands at a place
+-- one input, which is standard input where no name stands
+abbrev pub one_input : ℕ → List (List ℕ) → Result (Option ℕ) WordErr
+one_input place [] = Ok None
+one_input place (name ∷ []) = input_of place name
+one_input place (name ∷ more ∷ words) = Err (TooMany (place + 2))
 
 -- two inputs, not both of them standard input
-abbrev pub both_inputs : Option ℕ → Option ℕ → Result Command WordErr
-both_inputs None None = Err (TwoInputs 3)
-both_inputs instance cert = Ok (command.Check instance cert)
+abbrev pub both_inputs : ℕ → Option ℕ → Option ℕ → Result (Option ℕ × Option ℕ) WordErr
+both_inputs place None None = Err (TwoInputs (place + 2))
+both_inputs place instance cert = Ok (instance, cert)
 
-abbrev pub second_input : Option ℕ → Result (Option ℕ) WordErr → Result Command WordErr
-second_input instance (Ok cert) = both_inputs instance cert
-second_input instance (Err e) = Err e
+abbrev pub second_input : ℕ → Option ℕ → Result (Option ℕ) WordErr → Result (Option ℕ × Option ℕ) WordErr
+second_input place instance (Ok cert) = both_inputs place instance cert
+second_input place instance (Err e) = Err e
 
-abbrev pub first_input : Result (Option ℕ) WordErr → List ℕ → Result Command WordErr
-first_input (Ok instance) cert = second_input instance (input_of 2 cert)
-first_input (Err e) cert = Err e
+abbrev pub first_input : ℕ → Result (Option ℕ) WordErr → List ℕ → Result (Option ℕ × Option ℕ) WordErr
+first_input place (Ok instance) cert = second_input place instance (input_of (place + 1) cert)
+first_input place (Err e) cert = Err e
 
--- the inputs of a check
-abbrev pub two_inputs : List (List ℕ) → Result Command WordErr
-two_inputs [] = Err (TooFew 2)
-two_inputs (instance ∷ []) = Err (TooFew 3)
-two_inputs (instance ∷ cert ∷ []) = first_input (input_of 1 instance) cert
-two_inputs (instance ∷ cert ∷ more ∷ words) = Err (TooMany 4)
+abbrev pub two_inputs : ℕ → List (List ℕ) → Result (Option ℕ × Option ℕ) WordErr
+two_inputs place [] = Err (TooFew (place + 1))
+two_inputs place (instance ∷ []) = Err (TooFew (place + 2))
+two_inputs place (instance ∷ cert ∷ []) = first_input place (input_of place instance) cert
+two_inputs place (instance ∷ cert ∷ more ∷ words) = Err (TooMany (place + 3))
 
+abbrev pub with_one : {C : Type 0} → (Option ℕ → C) → Result (Option ℕ) WordErr → Result C WordErr
+with_one make (Ok input) = Ok (make input)
+with_one make (Err e) = Err e
+
+abbrev pub with_two : {C : Type 0} → (Option ℕ → Option ℕ → C) → Result (Option ℕ × Option ℕ) WordErr → Result C WordErr
+with_two make (Ok inputs) = Ok (make inputs.0 inputs.1)
+with_two make (Err e) = Err e
+
+-- ---- commands of one word
 -- a number from 0 to 999,999
 abbrev pub trial_command : ℕ → Result Command WordErr
 trial_command number = if nat_le number 999999 then Ok (command.Trial number) else Err (BadNumber 2)
@@ -75,28 +80,56 @@ abbrev pub no_word : List (List ℕ) → Result Command WordErr
 no_word [] = Ok command.Help
 no_word (more ∷ words) = Err (TooMany 2)
 
-abbrev pub with_input : (Option ℕ → Command) → Result (Option ℕ) WordErr → Result Command WordErr
-with_input make (Ok input) = Ok (make input)
-with_input make (Err e) = Err e
-
 -- the command that a verb and the words behind it name
 abbrev pub verb_command : Verb → List (List ℕ) → Result Command WordErr
-verb_command verb.Solve words = with_input command.Solve (one_input words)
-verb_command verb.Certify words = with_input command.Certify (one_input words)
-verb_command verb.Check words = two_inputs words
-verb_command verb.Demand words = with_input command.Demand (one_input words)
-verb_command verb.Simulate words = with_input command.Simulate (one_input words)
+verb_command verb.Solve words = with_one command.Solve (one_input 1 words)
+verb_command verb.Certify words = with_one command.Certify (one_input 1 words)
+verb_command verb.Check words = with_two command.Check (two_inputs 1 words)
+verb_command verb.Demand words = with_one command.Demand (one_input 1 words)
+verb_command verb.Simulate words = with_one command.Simulate (one_input 1 words)
 verb_command verb.Trial words = one_number words
 verb_command verb.Help words = no_word words
 
-abbrev pub known_command : Option Verb → List (List ℕ) → Result Command WordErr
-known_command (Some verb) words = verb_command verb words
-known_command None words = Err UnknownCommand
+-- ---- commands of two words
+-- the action that an act and the words behind it name
+abbrev pub act_action : Act → List (List ℕ) → Result Action WordErr
+act_action act.Solve words = with_one action.Solve (one_input 2 words)
+act_action act.Certify words = with_one action.Certify (one_input 2 words)
+act_action act.Check words = with_two action.Check (two_inputs 2 words)
+
+abbrev pub known_action : Option Act → List (List ℕ) → Result Action WordErr
+known_action (Some a) words = act_action a words
+known_action None words = Err UnknownAction
+
+-- the action of a part that the words behind its own name
+abbrev pub part_action : Part → List (List ℕ) → Result Action WordErr
+part_action p [] = Err (TooFew 2)
+part_action p (word ∷ words) = known_action (act_named p word) words
+
+-- the command of a part
+abbrev pub part_command : Part → Action → Command
+part_command part.Bracket a = command.Bracket a
+part_command part.Pipeline a = command.Pipeline a
+part_command part.Service a = command.Service a
+part_command part.Pairs a = command.Pairs a
+
+abbrev pub of_part : Part → Result Action WordErr → Result Command WordErr
+of_part p (Ok a) = Ok (part_command p a)
+of_part p (Err e) = Err e
+
+-- ---- all words
+abbrev pub part_words : Option Part → List (List ℕ) → Result Command WordErr
+part_words (Some p) words = of_part p (part_action p words)
+part_words None words = Err UnknownCommand
+
+abbrev pub known_words : Option Verb → Option Part → List (List ℕ) → Result Command WordErr
+known_words (Some v) p words = verb_command v words
+known_words None p words = part_words p words
 
 -- the command of words, which are lists of bytes
 abbrev pub words_command : List (List ℕ) → Result Command WordErr
 words_command [] = Err NoCommand
-words_command (word ∷ words) = known_command (verb_of word) words
+words_command (word ∷ words) = known_words (verb_named word) (part_named word) words
 
 -- the command of a run's words, which don't hold the program's name
 abbrev pub command_of : List (String Global) → Result Command WordErr

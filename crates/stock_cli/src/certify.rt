@@ -6,7 +6,7 @@ ghost use Rattle.stock_cli.specs.Claims.{IsCertificate};
 ghost use Rattle.stock_cli.specs.Outcome.{certify_outcome, output_of, written, AnswerHasText};
 
 use crate::answers::Answer;
-use crate::commands::Question;
+use crate::asked::Question;
 use crate::solvers::solver_of;
 use crate::status::Status;
 use decision_model::Instance;

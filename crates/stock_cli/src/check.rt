@@ -9,7 +9,7 @@ ghost use Rattle.stock_cli.specs.Claims.{HoldsCertificate};
 ghost use Rattle.stock_cli.specs.Inputs.{origin_of, content_of};
 ghost use Rattle.stock_cli.specs.Solvers.{IsBuilt};
 ghost use Rattle.stock_cli.specs.Status.{IsOfInputs};
-ghost use Rattle.stock_cli.specs.Outcome.{check_ending, output_of, written, AnswerHasText, rejection_text};
+ghost use Rattle.stock_cli.specs.Outcome.{check_ending, output_of, written, AnswerHasText};
 
 use crate::answers::Answer;
 use crate::certificates::{Unchecked, check_from};
@@ -18,8 +18,8 @@ use crate::solvers::solver_of;
 use crate::status::Status;
 use cert_check::{TextCheck, Verdict, cells_of, sums_of};
 use decision_model::Instance;
-use fraction128::{Memory, Text};
-use report_text::Fault;
+use fraction128::Memory;
+use report_text::{Fault, accepted_text, rejection_text};
 use std::alloc::Global;
 use stock_edge::{Files, Source};
 
@@ -37,29 +37,16 @@ fn fault_of(alloc: Global, name: &str, wrong: Unchecked) -> Fault
     }
 }
 
-// The text of a rejection.
-fn rejection(alloc: Global, line: u64, rule: u32) -> Result<Text, Memory>
-    ensures { IfOk result (λ text. text ≡ rejection_text line rule) }
-{
-    let mut text = Text::new(alloc);
-    let Ok(words) = format!(in alloc; "rejected line {line} rule {rule}\n") else {
-        return Err(Memory);
-    };
-    text.push(words.as_bytes())?;
-    Ok(text)
-}
-
 // The answer of a final verdict.
 fn answer_of(alloc: Global, verdict: Verdict) -> Result<Answer, Memory>
     ensures ok { IfOk result (λ answer. output_of answer ≡ verdict_told verdict) }
     ensures has_text { IfOk result AnswerHasText }
 {
     if let Verdict::Rejected { line, rule } = verdict {
-        let text = rejection(alloc, line, rule)?;
+        let text = rejection_text(alloc, line, rule)?;
         return Ok(Answer::Rejection(text));
     }
-    let mut text = Text::new(alloc);
-    text.push(b"accepted\n")?;
+    let text = accepted_text(alloc)?;
     Ok(Answer::Printed(text))
 }
 

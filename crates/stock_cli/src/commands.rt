@@ -1,39 +1,31 @@
 // The commands.
-ghost use Rattle.std.specs.Prelude.{◌≡◌, ◌≢◌, ◌⊎◌, ◌≤◌, List, ℕ, None, Some, Ok, Err, IfOk, IfErr, OnOk, IfSome, IsOk, IsSomeAnd};
+ghost use Rattle.std.specs.Prelude.{◌≡◌, ◌⊎◌, ◌≤◌, ℕ, None, Ok, IfOk, IfErr, OnOk, IfSome};
 ghost use Rattle.std.specs.declared.option.Option.{Option};
 ghost use Rattle.std.specs.Io.KnownBytes.{IsAtEnd};
-ghost use Rattle.decision_model.specs.declared.instance.Instance.{Instance};
 ghost use Rattle.decision_model.specs.Valid.{IsValid};
-ghost use Rattle.stock_cli.specs.Causes.{command_fault, IsInputOf, IsCheck, ComparesInput, ComesTo, ReadsNoFile, counts_of, IsUnread, IsRefused, HasNoAnswer};
-ghost use Rattle.stock_cli.specs.Checks.{Reaches};
+ghost use Rattle.stock_cli.specs.Asks.{CanRun, IsComparison, IsInputOf};
+ghost use Rattle.stock_cli.specs.Causes.{ComparesInput, ComesTo, ReadsNoFile, counts_of, IsUnread, IsRefused, HasNoAnswer};
+ghost use Rattle.stock_cli.specs.Checks.{ReachesFor};
 ghost use Rattle.stock_cli.specs.Claims.{OfInstance, QuestionClaims, CompareClaims, PlanClaims};
-ghost use Rattle.stock_cli.specs.Inputs.{origin_of, input_at, content_of, SaysInstance};
-ghost use Rattle.stock_cli.specs.Outcome.{question_outcome, question_ending, compare_ending, command_ending, output_of, written, task_plan, task_status, AnswerHasText, CanBeDone};
+ghost use Rattle.stock_cli.specs.Inputs.{origin_of, input_at, content_of};
+ghost use Rattle.stock_cli.specs.Outcome.{question_outcome, question_ending, compare_ending, asked_ending, output_of, written, task_plan, task_status, AnswerHasText, CanBeDone};
 ghost use Rattle.stock_cli.specs.Status.{IsOfInputs};
 
 use crate::answers::{Answer, Task};
+use crate::asked::{About, Asked, Question};
 use crate::certify::certify;
 use crate::check::check;
 use crate::demand::demand;
 use crate::inputs::{Input, read_from};
+use crate::names::Part;
 use crate::simulate::simulate;
 use crate::solve::solve;
 use crate::status::Status;
 use crate::trial::trial;
-use crate::words::Command;
 use decision_model::Instance;
 use report_text::Fault;
 use std::alloc::Global;
 use stock_edge::{Files, Source};
-
-/// A command that asks one instance.
-#[derive(Clone, Copy, Debug, PartialEq, Eq)]
-pub enum Question {
-    Solve,
-    Certify,
-    Demand,
-    Simulate,
-}
 
 // What is left to do for a question on an instance.
 fn answer_on(alloc: Global, question: Question, instance: Instance) -> Result<Task, Fault>
@@ -111,122 +103,70 @@ fn compare<I: Source, F: Files>(
     ensures later_files { F.faults files.old ≤ F.faults files.new }
     ensures spared_input { (ComparesInput (content_of (I.left input.old) (F.held files.old) (origin_of from.now)) (origin_of from.now) (origin_of cert.now) None → ⊥) → input.new ≡ input.old }
     ensures spared_files { ReadsNoFile (ComparesInput (content_of (I.left input.old) (F.held files.old) (origin_of from.now)) (origin_of from.now) (origin_of cert.now)) → files.new ≡ files.old }
-    ensures reach { (instance : Instance) →
-        IsSomeAnd (content_of (I.left input.old) (F.held files.old) (origin_of from.now)) (λ found. SaysInstance found instance) →
-        origin_of cert.now ≡ None → Reaches instance (I.left input.old) (I.left input.new) }
+    ensures reach { origin_of cert.now ≡ None → (input.new ≡ input.old) ⊎
+        ReachesFor (content_of (I.left input.old) (F.held files.old) (origin_of from.now)) (I.left input.old) (I.left input.new) }
 {
     let instance = read_from(alloc, from, input, files)?;
     check(alloc, &instance, cert, input, files)
 }
 
-// The answer to a check, which doesn't take both inputs from standard input.
-fn answer_check<I: Source, F: Files>(
-    alloc: Global,
-    words: &[String],
-    place: Option<usize>,
-    cert: Option<usize>,
-    input: &mut I,
-    files: &mut F,
-) -> Result<Answer, Fault>
-    ensures ok { IfOk result (λ answer. IfSome
-        (command_ending (I.left input.old) (F.held files.old) words.now (Command.Check place cert)) (λ end. end ≡ Ok (written answer))) }
-    ensures claims { IfOk result (λ answer. (output_of answer).status ≡ Status.Done →
-        PlanClaims (I.left input.old) (F.held files.old) words.now (written answer) (Command.Check place cert)) }
-    ensures has_text { IfOk result AnswerHasText }
-    ensures end { IfOk result (λ answer. (output_of answer).status ≡ Status.Done → IsInputOf (Command.Check place cert) None → IsAtEnd (I.left input.new)) }
-    ensures refused { IfErr result (IsRefused
-        (IsUnread (counts_of (I.faults input.old) (I.faults input.new) (F.faults files.old) (F.faults files.new))
-        (ComesTo (I.left input.old) (F.held files.old) words.now (Command.Check place cert)))
-        (command_ending (I.left input.old) (F.held files.old) words.now (Command.Check place cert))) }
-    ensures of_words { IfErr result (λ fault. IsOfInputs fault ⊎ (command_fault (Command.Check place cert) ≡ Some fault)) }
-    ensures built { (fault : Fault) → command_fault (Command.Check place cert) ≡ Some fault → result ≡ Err fault }
-    ensures later_input { I.faults input.old ≤ I.faults input.new }
-    ensures later_files { F.faults files.old ≤ F.faults files.new }
-    ensures spared_input { (ComesTo (I.left input.old) (F.held files.old) words.now (Command.Check place cert) None → ⊥) → input.new ≡ input.old }
-    ensures spared_files { ReadsNoFile (ComesTo (I.left input.old) (F.held files.old) words.now (Command.Check place cert)) → files.new ≡ files.old }
-    ensures reach { (instance : Instance) →
-        IsSomeAnd (content_of (I.left input.old) (F.held files.old) (input_at words.now place)) (λ found. SaysInstance found instance) →
-        cert ≡ None → Reaches instance (I.left input.old) (I.left input.new) }
-{
-    match (place, cert) {
-        (None, None) => Err(Fault::TwoInputs(3)),
-        _ => compare(
-            alloc,
-            &Input::named(words, place),
-            &Input::named(words, cert),
-            input,
-            files,
-        ),
-    }
-}
-
-/// What is left to do for a command, once its inputs are read; nothing is written before.
+/// What is left to do for what is asked, once the inputs are read; nothing is written before.
 pub fn task_of<I: Source, F: Files>(
     alloc: Global,
     words: &[String],
-    command: Command,
+    asked: Asked,
     input: &mut I,
     files: &mut F,
 ) -> Result<Task, Fault>
+    requires { CanRun asked }
     ensures ok { IfOk result (λ task. IfSome
-        (command_ending (I.left input.old) (F.held files.old) words.now command) (λ end. end ≡ Ok (task_plan task))) }
+        (asked_ending (I.left input.old) (F.held files.old) words.now asked) (λ end. end ≡ Ok (task_plan task))) }
     ensures claims { IfOk result (λ task. task_status task ≡ Status.Done →
-        PlanClaims (I.left input.old) (F.held files.old) words.now (task_plan task) command) }
+        PlanClaims (I.left input.old) (F.held files.old) words.now (task_plan task) asked) }
     ensures can { IfOk result CanBeDone }
-    ensures end { IfOk result (λ task. task_status task ≡ Status.Done → IsInputOf command None → IsAtEnd (I.left input.new)) }
-    ensures rejects { IfOk result (λ task. task_status task ≡ Status.Rejected → IsCheck (Ok command)) }
-    ensures help { command ≡ Command.Help → result ≡ Ok (Task.Write Answer.Help) }
-    ensures built { (fault : Fault) → command_fault command ≡ Some fault → result ≡ Err fault }
+    ensures end { IfOk result (λ task. task_status task ≡ Status.Done → IsInputOf asked None → IsAtEnd (I.left input.new)) }
+    ensures rejects { IfOk result (λ task. task_status task ≡ Status.Rejected → IsComparison asked) }
+    ensures help { asked ≡ Asked.Nothing → result ≡ Ok (Task.Write Answer.Help) }
     ensures refused { IfErr result (IsRefused
         (IsUnread (counts_of (I.faults input.old) (I.faults input.new) (F.faults files.old) (F.faults files.new))
-        (ComesTo (I.left input.old) (F.held files.old) words.now command))
-        (command_ending (I.left input.old) (F.held files.old) words.now command)) }
-    ensures of_words { IfErr result (λ fault. IsOfInputs fault ⊎ (command_fault command ≡ Some fault)) }
+        (ComesTo (I.left input.old) (F.held files.old) words.now asked))
+        (asked_ending (I.left input.old) (F.held files.old) words.now asked)) }
+    ensures of_inputs { IfErr result IsOfInputs }
     ensures later_input { I.faults input.old ≤ I.faults input.new }
     ensures later_files { F.faults files.old ≤ F.faults files.new }
-    ensures spared_input { (ComesTo (I.left input.old) (F.held files.old) words.now command None → ⊥) → input.new ≡ input.old }
-    ensures spared_files { ReadsNoFile (ComesTo (I.left input.old) (F.held files.old) words.now command) → files.new ≡ files.old }
-    ensures reach { (place : Option ℕ) (instance : Instance) → command ≡ Command.Check place None →
-        IsSomeAnd (content_of (I.left input.old) (F.held files.old) (input_at words.now place)) (λ found. SaysInstance found instance) →
-        Reaches instance (I.left input.old) (I.left input.new) }
+    ensures spared_input { (ComesTo (I.left input.old) (F.held files.old) words.now asked None → ⊥) → input.new ≡ input.old }
+    ensures spared_files { ReadsNoFile (ComesTo (I.left input.old) (F.held files.old) words.now asked) → files.new ≡ files.old }
+    ensures reach { (place : Option ℕ) → asked ≡ Asked.Two About.Kinds place None → (input.new ≡ input.old) ⊎
+        ReachesFor (content_of (I.left input.old) (F.held files.old) (input_at words.now place)) (I.left input.old) (I.left input.new) }
 {
-    match command {
-        Command::Solve(place) => ask(
-            alloc,
-            Question::Solve,
-            &Input::named(words, place),
-            input,
-            files,
-        ),
-        Command::Certify(place) => ask(
-            alloc,
-            Question::Certify,
-            &Input::named(words, place),
-            input,
-            files,
-        ),
-        Command::Demand(place) => ask(
-            alloc,
-            Question::Demand,
-            &Input::named(words, place),
-            input,
-            files,
-        ),
-        Command::Simulate(place) => ask(
-            alloc,
-            Question::Simulate,
-            &Input::named(words, place),
-            input,
-            files,
-        ),
-        Command::Check(place, cert) => match answer_check(alloc, words, place, cert, input, files) {
-            Ok(answer) => Ok(Task::Write(answer)),
-            Err(fault) => Err(fault),
+    match asked {
+        Asked::One(About::Kinds, question, place) => {
+            ask(alloc, question, &Input::named(words, place), input, files)
+        }
+        Asked::Two(About::Kinds, place, cert) => {
+            let from = Input::named(words, place);
+            let cert = Input::named(words, cert);
+            match compare(alloc, &from, &cert, input, files) {
+                Ok(answer) => Ok(Task::Write(answer)),
+                Err(fault) => Err(fault),
+            }
+        }
+        Asked::One(About::Part(part), _, _) => match part {
+            Part::Bracket => unreachable!(),
+            Part::Pipeline => unreachable!(),
+            Part::Service => unreachable!(),
+            Part::Pairs => unreachable!(),
         },
-        Command::Trial(number) => {
+        Asked::Two(About::Part(part), _, _) => match part {
+            Part::Bracket => unreachable!(),
+            Part::Pipeline => unreachable!(),
+            Part::Service => unreachable!(),
+            Part::Pairs => unreachable!(),
+        },
+        Asked::Number(number) => {
             let text = trial(alloc, number)?;
             Ok(Task::Write(Answer::Printed(text)))
         }
-        Command::Help => Ok(Task::Write(Answer::Help)),
+        Asked::Nothing => Ok(Task::Write(Answer::Help)),
     }
 }

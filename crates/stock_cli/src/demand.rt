@@ -5,7 +5,7 @@ ghost use Rattle.stock_cli.specs.Causes.{HasNoAnswer};
 ghost use Rattle.stock_cli.specs.Outcome.{demand_outcome, output_of, written, AnswerHasText};
 
 use crate::answers::Answer;
-use crate::commands::Question;
+use crate::asked::Question;
 use crate::status::Status;
 use decision_model::{Instance, kind};
 use report_text::{Fault, demand_text, has_laws};

@@ -3,12 +3,14 @@
 #![tactic(auto)]
 
 mod answers;
+mod asked;
 mod certificates;
 mod certify;
 mod check;
 mod commands;
 mod demand;
 mod inputs;
+mod names;
 mod runs;
 mod simulate;
 mod solve;
@@ -18,7 +20,8 @@ mod top;
 mod trial;
 mod words;
 
+pub use names::{Act, Part, Verb};
 pub use runs::{RunErr, run_rows};
 pub use status::Status;
 pub use top::stock;
-pub use words::{Command, WordErr, read_words};
+pub use words::{Action, Command, WordErr, read_words};

@@ -4,7 +4,7 @@ ghost use Rattle.decision_model.specs.Network.{IsValidNetwork};
 ghost use Rattle.decision_model.specs.Valid.{IsValid};
 ghost use Rattle.stock_cli.specs.Causes.{HasNoAnswer};
 
-use crate::commands::Question;
+use crate::asked::Question;
 use decision_model::{Instance, Network, kind};
 use report_text::Fault;
 

@@ -1,29 +1,27 @@
 // The top call.
-ghost use Rattle.std.specs.Prelude.{◌≡◌, ◌⊎◌, ◌≤◌, ℕ, List, map, None, Some, Ok, Err, IfOk, IfErr, IfSome, IsOk, IsSome, IsSomeAnd};
-ghost use Rattle.std.specs.Io.KnownBytes.{Appends, IsAtEnd, Keeps};
+ghost use Rattle.std.specs.Prelude.{◌≡◌, ◌⊎◌, ◌≤◌, ℕ, List, map, None, Some, Ok, Err, IfOk, IfErr, IfSome, IsOk, IsSome};
+ghost use Rattle.std.specs.Io.KnownBytes.{Appends, IsAtEnd};
 ghost use Rattle.std.specs.declared.option.Option.{Option};
-ghost use Rattle.decision_model.specs.declared.instance.Instance.{Instance};
 ghost use Rattle.stock_edge.specs.Causes.{Rose, AppendsPrefix};
+ghost use Rattle.stock_cli.specs.Asks.{asked_of};
 ghost use Rattle.stock_cli.specs.Causes.{words_fault, IsCheck, TakesInput, ReadsInput, ReadsNoFile, counts_of, FailsOne, IsUnread, IsRefused, IsToldOf, IsTold, HasMessage};
-ghost use Rattle.stock_cli.specs.Checks.{Reaches};
+ghost use Rattle.stock_cli.specs.Checks.{ReachesFor};
 ghost use Rattle.stock_cli.specs.Claims.{Claims, PlanClaims};
-ghost use Rattle.stock_cli.specs.Inputs.{SaysInstance, content_of, input_at};
+ghost use Rattle.stock_cli.specs.Inputs.{content_of, input_at};
 ghost use Rattle.stock_cli.specs.Outcome.{ending_of, plan_of, status_of_outcome, task_plan, task_status, text_of, CanBeDone};
 ghost use Rattle.stock_cli.specs.Status.{IsDecided, IsOfInputs, WritesNothing};
 ghost use Rattle.stock_cli.specs.Words.{command_of};
 
 use crate::answers::{Answer, Task, perform_task, status_with};
+use crate::asked::asked_of;
 use crate::commands::task_of;
 use crate::status::{Status, status_for};
 use crate::words::{Command, read_words};
 use fraction128::Memory;
 use node_state::HouseRule;
-use report_text::{Fault, fault_text};
+use report_text::{Fault, cannot_write_text, fault_text};
 use std::alloc::Global;
 use stock_edge::{Files, Sink, Source, write_all};
-
-/// The message of an output that failed, for which no memory is taken.
-const CANNOT_WRITE: &[u8] = b"stock: cannot write\n";
 
 // What is left to do for the words, once the inputs are read; nothing is written before.
 fn perform<I: Source, F: Files>(
@@ -34,7 +32,7 @@ fn perform<I: Source, F: Files>(
 ) -> Result<Task, Fault>
     ensures ok { IfOk result (λ task. IfSome (plan_of (I.left input.old) (F.held files.old) words.now) (λ end. end ≡ Ok (task_plan task))) }
     ensures claims { IfOk result (λ task. (command : Command) → command_of words.now ≡ Ok command → task_status task ≡ Status.Done →
-        PlanClaims (I.left input.old) (F.held files.old) words.now (task_plan task) command) }
+        PlanClaims (I.left input.old) (F.held files.old) words.now (task_plan task) (asked_of command)) }
     ensures can { IfOk result CanBeDone }
     ensures end { IfOk result (λ task. task_status task ≡ Status.Done → TakesInput (command_of words.now) None → IsAtEnd (I.left input.new)) }
     ensures rejects { IfOk result (λ task. task_status task ≡ Status.Rejected → IsCheck (command_of words.now)) }
@@ -49,12 +47,11 @@ fn perform<I: Source, F: Files>(
     ensures later_files { F.faults files.old ≤ F.faults files.new }
     ensures spared_input { (ReadsInput (I.left input.old) (F.held files.old) words.now (command_of words.now) None → ⊥) → input.new ≡ input.old }
     ensures spared_files { ReadsNoFile (ReadsInput (I.left input.old) (F.held files.old) words.now (command_of words.now)) → files.new ≡ files.old }
-    ensures reach { (place : Option ℕ) (instance : Instance) → command_of words.now ≡ Ok (Command.Check place None) →
-        IsSomeAnd (content_of (I.left input.old) (F.held files.old) (input_at words.now place)) (λ found. SaysInstance found instance) →
-        Reaches instance (I.left input.old) (I.left input.new) }
+    ensures reach { (place : Option ℕ) → command_of words.now ≡ Ok (Command.Check place None) → (input.new ≡ input.old) ⊎
+        ReachesFor (content_of (I.left input.old) (F.held files.old) (input_at words.now place)) (I.left input.old) (I.left input.new) }
 {
     match read_words(words) {
-        Ok(command) => task_of(alloc, words, command, input, files),
+        Ok(command) => task_of(alloc, words, asked_of(command), input, files),
         Err(wrong) => Err(Fault::from(wrong)),
     }
 }
@@ -74,7 +71,7 @@ fn refuse<E: Sink>(alloc: Global, err: &mut E, fault: &Fault) -> Status
     ensures write_fault { fault.now ≡ Fault.WriteFault → result ≡ Status.WriteFault }
 {
     if let Fault::WriteFault = fault {
-        tell(err, CANNOT_WRITE);
+        tell(err, cannot_write_text().as_bytes());
         return Status::WriteFault;
     }
     match fault_text(alloc, fault) {
@@ -121,7 +118,7 @@ pub fn stock<I: Source, F: Files, O: Sink, E: Sink>(
     ensures write_fault { result ≡ Status.WriteFault → Rose (O.faults out.old) (O.faults out.new) }
     ensures writing { result ≡ Status.WriteFault → IfSome (ending_of (I.left input.old) (F.held files.old) words.now (map (λ b. (⟦<dyn HouseRule as HouseRule>⟧ b.vtable).meaning b.value) rules.items)) IsOk }
     ensures rejects { result ≡ Status.Rejected → IsCheck (command_of words.now) }
-    ensures nothing { WritesNothing result → Keeps (O.written out.old) (O.written out.new) }
+    ensures nothing { WritesNothing result → out.new ≡ out.old }
 
     // What ends with a text ends so, where no object failed and memory is there; `help` takes none.
     ensures complete { IfSome (ending_of (I.left input.old) (F.held files.old) words.now (map (λ b. (⟦<dyn HouseRule as HouseRule>⟧ b.vtable).meaning b.value) rules.items)) (λ end. IsOk end
@@ -132,7 +129,7 @@ pub fn stock<I: Source, F: Files, O: Sink, E: Sink>(
 
     // Done after `solve`, `certify` and `check` names a policy than which none costs less, and its cost.
     ensures claims { (command : Command) → command_of words.now ≡ Ok command → result ≡ Status.Done → (text : List ℕ)
-        × Claims (I.left input.old) (F.held files.old) words.now (map (λ b. (⟦<dyn HouseRule as HouseRule>⟧ b.vtable).meaning b.value) rules.items) text command × Appends (O.written out.old) (O.written out.new) text }
+        × Claims (I.left input.old) (F.held files.old) words.now (map (λ b. (⟦<dyn HouseRule as HouseRule>⟧ b.vtable).meaning b.value) rules.items) text (asked_of command) × Appends (O.written out.old) (O.written out.new) text }
     // Done means that standard input, where it is read, was read to its end.
     ensures end { result ≡ Status.Done → TakesInput (command_of words.now) None → IsAtEnd (I.left input.new) }
 
@@ -140,10 +137,9 @@ pub fn stock<I: Source, F: Files, O: Sink, E: Sink>(
     ensures input_spared { (ReadsInput (I.left input.old) (F.held files.old) words.now (command_of words.now) None → ⊥) →
         input.new ≡ input.old }
     ensures files_spared { ReadsNoFile (ReadsInput (I.left input.old) (F.held files.old) words.now (command_of words.now)) → files.new ≡ files.old }
-    // A check takes at most 4,224 bytes of standard input past the lines of its certificate that all pass.
-    ensures reach { (place : Option ℕ) (instance : Instance) → command_of words.now ≡ Ok (Command.Check place None) →
-        IsSomeAnd (content_of (I.left input.old) (F.held files.old) (input_at words.now place)) (λ found. SaysInstance found instance) →
-        Reaches instance (I.left input.old) (I.left input.new) }
+    // A check takes at most 4,224 bytes of standard input past the lines of its certificate that all pass, or none.
+    ensures reach { (place : Option ℕ) → command_of words.now ≡ Ok (Command.Check place None) → (input.new ≡ input.old) ⊎
+        ReachesFor (content_of (I.left input.old) (F.held files.old) (input_at words.now place)) (I.left input.old) (I.left input.new) }
 
     // What stands on `err`.
     ensures message { HasMessage result → IsTold
@@ -151,7 +147,7 @@ pub fn stock<I: Source, F: Files, O: Sink, E: Sink>(
         (ending_of (I.left input.old) (F.held files.old) words.now (map (λ b. (⟦<dyn HouseRule as HouseRule>⟧ b.vtable).meaning b.value) rules.items))
         (ReadsInput (I.left input.old) (F.held files.old) words.now (command_of words.now)) result
         (E.faults err.old) (E.faults err.new) (E.written err.old) (E.written err.new) }
-    ensures silent { (HasMessage result → ⊥) → Keeps (E.written err.old) (E.written err.new) }
+    ensures silent { (HasMessage result → ⊥) → err.new ≡ err.old }
 {
     match perform(alloc, words, input, files) {
         Ok(task) => match perform_task(alloc, &task, rules, out) {

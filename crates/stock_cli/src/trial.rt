@@ -14,22 +14,22 @@ ghost use Rattle.trial_instances.specs.Serial.{trial_serial};
 ghost use Rattle.trial_instances.specs.Network.{trial_network};
 ghost use Rattle.stock_cli.specs.Runs.{Stands};
 ghost use Rattle.stock_cli.specs.Solvers.{IsBuilt};
-ghost use Rattle.stock_cli.specs.Trial.{IsNetwork, IsTried, level_part, line_end, certified_line, first_line, solved_line, solved_lines, network_line, network_line_of, trial_text};
+ghost use Rattle.stock_cli.specs.Trial.{IsNetwork, IsTried, solved_line, solved_lines, network_line, network_line_of, trial_text};
 
 use crate::solvers::solver_of;
 use cert_check::{Verdict, verdict};
-use decision_model::{Instance, Network, kind};
+use decision_model::{Instance, Network};
 use fraction128::{Memory, Text};
 use instance_json::{InstanceErr, read_instance, write_instance};
 use network_sim::{Row, Sim};
 use node_state::HouseRule;
-use report_text::{push_number, push_span};
+use report_text::{push_certified, push_last, push_number_tried, push_run};
 use std::alloc::Global;
 use stock_edge::{Failed, Sink};
 use trial_instances::{
     trial_average, trial_finite, trial_lots, trial_network, trial_news, trial_serial,
 };
-use value_cert::{Cert, cost_of, write_cert};
+use value_cert::{Cert, write_cert};
 
 // A certificate's text as it is written. A write fails where memory is refused.
 #[derive(Drop)]
@@ -103,48 +103,6 @@ fn accept(alloc: Global, instance: &Instance, cert: &Cert) -> Result<(), Memory>
     }
 }
 
-// Appends the level of a newsvendor's certificate.
-fn push_level(out: &mut Text, cert: &Cert) -> Result<(), Memory>
-    ensures { OnOk result (out.new ≡ out.old ++ level_part cert.now) }
-{
-    match cert {
-        Cert::News(news) => {
-            out.push(b" ")?;
-            push_number(out, news.q)
-        }
-        _ => Ok(()),
-    }
-}
-
-// Appends the span of an average cost, and ends the line.
-fn push_end(out: &mut Text, instance: &Instance, cert: &Cert) -> Result<(), Memory>
-    requires valid { IsValid instance.now }
-    requires certified { Certifies instance.now cert.now }
-    ensures { OnOk result (out.new ≡ out.old ++ line_end instance.now cert.now) }
-{
-    match (instance, cert) {
-        (Instance::Average(_), Cert::Average(_)) => {
-            out.push(b" ")?;
-            push_span(out, instance, cert)
-        }
-        _ => out.push(b"\n"),
-    }
-}
-
-// Appends the line of an instance and its certificate.
-fn push_certified(out: &mut Text, instance: &Instance, cert: &Cert) -> Result<(), Memory>
-    requires valid { IsValid instance.now }
-    requires certified { Certifies instance.now cert.now }
-    requires has_text { HasText cert.now }
-    ensures { OnOk result (out.new ≡ out.old ++ certified_line instance.now cert.now) }
-{
-    out.push(kind(instance).word().as_bytes())?;
-    push_level(out, cert)?;
-    out.push(b" ")?;
-    cost_of(instance, cert).text_into(out)?;
-    push_end(out, instance, cert)
-}
-
 // Writes an instance, reads it again, solves it, has its certificate checked, and appends its line.
 fn push_solved(out: &mut Text, alloc: Global, made: &Instance) -> Result<(), Memory>
     requires { IsTried made.now }
@@ -203,21 +161,10 @@ fn push_network(out: &mut Text, alloc: Global, made: &Instance) -> Result<(), Me
     match reread(alloc, made)? {
         Instance::Network(net) => {
             let total = total_of(alloc, &net)?;
-            out.push(b"network ")?;
-            push_number(out, total)?;
-            out.push(b"\n")
+            push_run(out, total)
         }
         _ => unreachable!(),
     }
-}
-
-// Appends the first line.
-fn push_first(out: &mut Text, number: u32) -> Result<(), Memory>
-    ensures { OnOk result (out.new ≡ out.old ++ first_line number) }
-{
-    out.push(b"trial ")?;
-    push_number(out, number)?;
-    out.push(b"\n")
 }
 
 // Makes the newsvendor, solves it and appends its line.
@@ -287,9 +234,9 @@ pub fn trial(alloc: Global, number: u32) -> Result<Text, Memory>
     ensures { IfOk result (λ text. text ≡ trial_text number) }
 {
     let mut text = Text::new(alloc);
-    push_first(&mut text, number)?;
+    push_number_tried(&mut text, number)?;
     push_all_solved(&mut text, alloc, number)?;
     push_made_network(&mut text, alloc, number)?;
-    text.push(b"all accepted\n")?;
+    push_last(&mut text)?;
     Ok(text)
 }

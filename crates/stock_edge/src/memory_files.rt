@@ -43,16 +43,10 @@ impl FileStore {
         ensures ok { OnOk result (held_in self.new ≡ held_with (held_in self.old) name.now bytes.now) }
         ensures err { OnErr result (self.new ≡ self.old) }
     {
-        let Ok(name) = String::from_str(self.alloc, name) else {
-            return Err(Memory);
-        };
-        let Ok(bytes) = bytes.to_vec(self.alloc) else {
-            return Err(Memory);
-        };
-        match self.files.insert(name, bytes) {
-            Ok(_) => Ok(()),
-            Err(_) => Err(Memory),
-        }
+        let name = String::from_str(self.alloc, name)?;
+        let bytes = bytes.to_vec(self.alloc)?;
+        self.files.insert(name, bytes)?;
+        Ok(())
     }
 
     fn read_at(&self, name: &str, place: u64, buf: &mut [u8]) -> Result<usize, FileFault>
@@ -101,15 +95,13 @@ impl MemFiles {
           faults = 0;
         }) }
     {
-        match fails.to_vec(alloc) {
-            Ok(fails) => Ok(MemFiles {
-                store: FileStore::new(alloc),
-                fails,
-                calls: 0,
-                faults: 0,
-            }),
-            Err(_) => Err(Memory),
-        }
+        let fails = fails.to_vec(alloc)?;
+        Ok(MemFiles {
+            store: FileStore::new(alloc),
+            fails,
+            calls: 0,
+            faults: 0,
+        })
     }
 
     /// Holds `bytes` under `name`, in place of any before. After `Memory` the files are as before.

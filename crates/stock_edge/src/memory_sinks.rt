@@ -44,12 +44,8 @@ impl MemSink {
           faults = 0;
         }) }
     {
-        let Ok(held) = Vec::with_capacity(alloc, room) else {
-            return Err(Memory);
-        };
-        let Ok(fails) = fails.to_vec(alloc) else {
-            return Err(Memory);
-        };
+        let held = Vec::with_capacity(alloc, room)?;
+        let fails = fails.to_vec(alloc)?;
         Ok(MemSink {
             held,
             most,

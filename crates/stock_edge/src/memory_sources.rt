@@ -47,12 +47,8 @@ impl MemSource {
           faults = 0;
         }) }
     {
-        let Ok(rest) = bytes.to_vec(alloc) else {
-            return Err(Memory);
-        };
-        let Ok(fails) = fails.to_vec(alloc) else {
-            return Err(Memory);
-        };
+        let rest = bytes.to_vec(alloc)?;
+        let fails = fails.to_vec(alloc)?;
         Ok(MemSource {
             rest,
             most,
@@ -112,10 +108,8 @@ impl QuietSource {
         requires { 0 < most }
         ensures { IfOk result (λ source. source ≡ record { left = bytes.now; most = most }) }
     {
-        match bytes.to_vec(alloc) {
-            Ok(rest) => Ok(QuietSource { rest, most }),
-            Err(_) => Err(Memory),
-        }
+        let rest = bytes.to_vec(alloc)?;
+        Ok(QuietSource { rest, most })
     }
 }
 

@@ -1,6 +1,7 @@
 // The adapter over the system's files. It tells no content, since what a file holds is outside of
 // every contract.
-ghost use Rattle.std.specs.Prelude.{◌≡◌, IfOk, IsErrOf};
+ghost use Rattle.std.specs.Prelude.{◌≡◌, ◌+◌, ◌^◌, ◌<◌, false, None, IfOk, IfSome, IsErrOf, OnOk, OnErr};
+ghost use Rattle.std.specs.Str.{bytes_eq};
 ghost use Rattle.std.specs.Io.{ReadsAtMost};
 ghost use Rattle.stock_edge.specs.HeldFiles.{file_faults_after};
 
@@ -60,7 +61,7 @@ impl<R: rt::Files<File = File>> RealFiles<R> {
         ensures bound { ReadsAtMost result buf.new }
         ensures same { self.new ≡ self.old }
     {
-        if !self.keeps(name) {
+        if !keeps(&self.opened, name) {
             self.opened = None;
             self.opened = Some(open(&self.system, name)?);
         }
@@ -69,13 +70,16 @@ impl<R: rt::Files<File = File>> RealFiles<R> {
             None => Err(FileFault::Failed),
         }
     }
+}
 
-    // Whether the file that is kept open has this name.
-    fn keeps(&self, name: &str) -> bool {
-        match &self.opened {
-            Some(opened) => opened.name.as_str() == name,
-            None => false,
-        }
+// Whether the file that is kept open has this name.
+fn keeps(opened: &Option<OpenedFile<File>>, name: &str) -> bool
+    ensures none { opened.now ≡ None → result ≡ false }
+    ensures kept { IfSome opened.now (λ file. result ≡ bytes_eq file.name.bytes name.now) }
+{
+    match opened {
+        Some(opened) => opened.name.as_str() == name,
+        None => false,
     }
 }
 
@@ -103,7 +107,10 @@ impl<R: rt::Files<File = File>> Files for RealFiles<R> {
 }
 
 // Opens the file of this name. A name that is too long to be kept is longer than the system takes.
-fn open<R: rt::Files<File = File>>(system: &R, name: &str) -> Result<OpenedFile<File>, FileFault> {
+fn open<R: rt::Files<File = File>>(system: &R, name: &str) -> Result<OpenedFile<File>, FileFault>
+    ensures named { IfOk result (λ file. file.name.bytes ≡ name.now) }
+    ensures unread { IfOk result (λ file. file.offset ≡ 0) }
+{
     let mut kept_name = ArrayString::new();
     if kept_name.try_push_str(name).is_err() {
         return Err(FileFault::Failed);
@@ -123,6 +130,8 @@ impl<F: Read + Seek> OpenedFile<F> {
     // One read from `place` on, which is sought only where it isn't the next byte's.
     fn read_from(&mut self, place: u64, buf: &mut [u8]) -> Result<usize, FileFault>
         ensures bound { ReadsAtMost result buf.new }
+        ensures name { self.new.name ≡ self.old.name }
+        ensures next { IfOk result (λ count. place + count < 2 ^ 64 → self.new.offset ≡ place + count) }
     {
         if place != self.offset {
             self.seek(place)?;
@@ -137,7 +146,11 @@ impl<F: Read + Seek> OpenedFile<F> {
     }
 
     // Goes to the byte at `place`.
-    fn seek(&mut self, place: u64) -> Result<(), FileFault> {
+    fn seek(&mut self, place: u64) -> Result<(), FileFault>
+        ensures there { OnOk result (self.new.offset ≡ place) }
+        ensures failed { OnErr result (self.new.offset ≡ self.old.offset) }
+        ensures name { self.new.name ≡ self.old.name }
+    {
         match self.file.seek(SeekFrom::Start(place)) {
             Ok(_) => {
                 self.offset = place;

@@ -9,8 +9,6 @@ mod network;
 mod news;
 mod numbers;
 mod serial;
-#[cfg(test)]
-mod tests;
 
 pub use average::trial_average;
 pub use finite::trial_finite;

@@ -19,10 +19,7 @@ fn name_of(alloc: Global, letters: &[u8]) -> Result<Text, Memory>
 fn links_of(alloc: Global, links: &[Link]) -> Result<Items<Link>, Memory>
     ensures { IfOk result (λ items. items ≡ links.now) }
 {
-    match links.to_vec(alloc) {
-        Ok(items) => Ok(Items::new(items)),
-        Err(_) => Err(Memory),
-    }
+    Ok(Items::new(links.to_vec(alloc)?))
 }
 
 // A node with customers, which orders from the depot up to a level.

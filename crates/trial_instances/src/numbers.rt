@@ -12,10 +12,8 @@ use std::alloc::Global;
 pub(crate) fn push<T: Drop>(items: &mut Vec<T>, item: T) -> Result<(), Memory>
     ensures { OnOk result (items.new.items ≡ items.old.items ++ item ∷ []) }
 {
-    match items.push(item) {
-        Ok(()) => Ok(()),
-        Err(_) => Err(Memory),
-    }
+    items.push(item)?;
+    Ok(())
 }
 
 /// The number from `least` to `most` at a place of the words that a trial's number starts, from 0.
@@ -58,8 +56,5 @@ pub(crate) fn numbers(
 pub(crate) fn repeated(alloc: Global, count: usize, amount: u64) -> Result<Amounts, Memory>
     ensures { IfOk result (λ amounts. amounts ≡ repeated count amount) }
 {
-    match vec![in alloc; amount; count] {
-        Ok(amounts) => Ok(Amounts::new(amounts)),
-        Err(_) => Err(Memory),
-    }
+    Ok(Amounts::new(vec![in alloc; amount; count]?))
 }

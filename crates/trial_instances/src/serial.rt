@@ -11,10 +11,7 @@ use std::alloc::Global;
 fn starts(alloc: Global) -> Result<Positions, Memory>
     ensures { IfOk result (λ starts. starts ≡ pos 10 ∷ pos 20 ∷ pos 30 ∷ pos 40 ∷ []) }
 {
-    match [10, 20, 30, 40].to_vec(alloc) {
-        Ok(starts) => Ok(Positions::new(starts)),
-        Err(_) => Err(Memory),
-    }
+    Ok(Positions::new([10, 20, 30, 40].to_vec(alloc)?))
 }
 
 /// The serial system of a trial's number: 12 periods, four echelons and 400 positions.

@@ -1,5 +1,5 @@
 -- The values of a certificate of a serial system that has a text are small.
-use Rattle.std.proofs.Common.{◌≡◌, ℕ, suc, ◌+◌, ◌^◌, ◌<◌, ◌≤◌, Bool, true, false, List, [], ◌∷◌, ◌++◌, map, length, drop, ℤ, pos, ◌+ℤ◌, IsTrue, ap, arith, add-one, ◌==◌, ◌&&◌}
+use Rattle.std.proofs.Common.{◌≡◌, ℕ, suc, ◌+◌, ◌^◌, ◌<◌, ◌≤◌, Bool, true, false, List, [], ◌∷◌, ◌++◌, map, length, drop, ℤ, pos, ◌+ℤ◌, IsTrue, ap, arith, add-one, ◌==◌}
 use Rattle.std.specs.Prelude.{unsigned_abs, slice_index_or, if◌then◌else◌}
 use Rattle.std.proofs.Math.Seq.{drop-cons}
 use Rattle.std.proofs.lemmas.Int.{ints}
@@ -15,7 +15,7 @@ use Rattle.value_cert.specs.SerialRules.{rows_of, row_cells, cell_value}
 use Rattle.value_cert.specs.Texts.{cert_lines}
 use Rattle.value_cert.specs.declared.cert.Cert.TheVariants as cert
 use Rattle.value_cert.specs.declared.line.CertLine.{CertLine}
-use Rattle.value_cert.specs.declared.line.CertLine.TheVariants.{Head, Period, Echelon, Part, End}
+use Rattle.value_cert.specs.declared.line.CertLine.TheVariants.{Head, Period, Echelon, End}
 use Rattle.value_cert.specs.declared.serial.SerialCell.{SerialCell}
 use Rattle.value_cert.specs.declared.serial.SerialCert.{SerialCert}
 use Rattle.value_cert.specs.declared.serial.SerialPeriod.{SerialPeriod}

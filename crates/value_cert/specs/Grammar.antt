@@ -1,6 +1,7 @@
 -- Which lines may stand behind one another, by the tables of the kinds.
-use Rattle.std.specs.Prelude.{List, [], ◌∷◌, Bool, true, false, ◌&&◌, if◌then◌else◌, ℤ, Option, Some, None}
+use Rattle.std.specs.Prelude.{List, Bool, true, false, ◌&&◌, if◌then◌else◌, ℤ, Option, Some, None}
 use Rattle.decision_model.specs.declared.kinds.Kind.{Kind}
+use Rattle.line_text.specs.Grammar.{walk, is_end}
 use Rattle.value_cert.specs.Kinds.{table_of}
 use Rattle.value_cert.specs.Numbers.{is_natural, is_whole}
 use Rattle.value_cert.specs.Tags.{tag_of}
@@ -45,9 +46,7 @@ step_of at next = if has_numbers next then next_place at next else None
 
 -- the place behind lines that may stand one behind the other, the first of them at a place
 abbrev pub place_from : Option Place → List CertLine → Option Place
-place_from None lines = None
-place_from (Some at) [] = Some at
-place_from (Some at) (next ∷ lines) = place_from (step_of at next) lines
+place_from at lines = walk step_of at lines
 
 -- the place behind lines that are the front of a certificate
 abbrev pub place_after : List CertLine → Option Place
@@ -59,5 +58,4 @@ is_ended (place.Behind kind tag.End) = true
 is_ended _ = false
 
 abbrev pub has_ended : Option Place → Bool
-has_ended None = false
-has_ended (Some at) = is_ended at
+has_ended at = is_end is_ended at

@@ -5,7 +5,7 @@ use Rattle.std.proofs.lemmas.Bool.{leb-true, false≢true}
 use Rattle.decision_model.specs.Kind.{kind_word, kind_named}
 use Rattle.decision_model.specs.declared.kinds.Kind.{Kind}
 use Rattle.decision_model.specs.declared.kinds.Kind.TheVariants as kind
-use Rattle.value_cert.specs.LineWords.{IsWithout}
+use Rattle.line_text.specs.LineWords.{IsWithout}
 use Rattle.value_cert.specs.NumberFacts.{both, all_cons, all_none}
 
 -- none of the bytes is this one

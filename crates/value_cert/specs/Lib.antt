@@ -14,8 +14,6 @@ pub mod Writes
 pub mod Parsing
 pub mod LineWords
 pub mod Digits
-pub mod Reading
-pub mod ReaderFields
 pub mod GrammarFacts
 pub mod NumberFacts
 pub mod KindWords
@@ -28,6 +26,8 @@ pub mod AverageFacts
 pub mod SerialFacts
 pub mod CertFacts
 pub mod TextFacts
+pub mod CertGrammar
+pub mod Reading
 pub mod ReadingFacts
 pub mod Rules
 pub mod Kept
@@ -45,7 +45,10 @@ pub mod SerialValues
 pub mod SerialRules
 pub mod Standards
 pub mod Breaches
-pub mod BreachFacts
 pub mod Meaning
 pub mod PrintedCost
 pub mod HasTexts
+pub mod FlatLines
+pub mod FlatFacts
+pub mod FlatGrammar
+pub mod FlatReading

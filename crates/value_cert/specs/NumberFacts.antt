@@ -18,7 +18,8 @@ use Rattle.std.proofs.lemmas.Str.Parse.{digit_from_value}
 use borrow.Author.Tests.{ltb-true, lt-ltb, eqb-true, ne_eqb}
 use Rattle.value_cert.specs.Numbers.{is_natural, is_whole}
 use Rattle.value_cert.specs.Parsing.{word_number}
-use Rattle.value_cert.specs.LineWords.{IsWithout, is_leading_digit, is_plain}
+use Rattle.line_text.specs.LineWords.{IsWithout}
+use Rattle.value_cert.specs.LineWords.{is_leading_digit, is_plain}
 
 -- both tests are passed
 pub both : (a b : Bool) → (a && b) ≡ true → (a ≡ true) × (b ≡ true)

@@ -21,13 +21,10 @@ use Rattle.value_cert.specs.Lines.{number_word, head_words, line_words}
 use Rattle.value_cert.specs.NumberFacts.{both, all_cons, number_without, number_length, small_from_whole, small_from_natural, whole_from_small, word_number-signed_decimal, signed_decimal-word_number}
 use Rattle.value_cert.specs.Numbers.{is_natural, is_whole, is_discount, is_one}
 use Rattle.value_cert.specs.Parsing.{word_number, certified, word_kind, plain_head, discount_head, one_number, two_numbers, three_numbers, words_line, line_of}
-use Rattle.value_cert.specs.LineWords.{IsWithout, is_blank}
+use Rattle.line_text.specs.LineWords.{IsWithout}
+use Rattle.value_cert.specs.LineWords.{is_blank}
 use Rattle.value_cert.specs.declared.line.CertLine.{CertLine}
 use Rattle.value_cert.specs.declared.line.CertLine.TheVariants.{Head, Level, Order, Cost, Period, Value, Gain, Pair, Point, Echelon, Part, End}
-
--- a text splits at its first line feed
-pub slice_split-text : (words rest : List ℕ) → IsWithout 10 words → slice_split (λ byte. byte == 10) (words ++ 10 ∷ rest) ≡ words ∷ slice_split (λ byte. byte == 10) rest
-slice_split-text words rest none = slice_split_at (λ byte. byte == 10) words 10 rest none refl
 
 -- one, two and three words
 one_word : (a : List ℕ) → IsWithout 32 a → slice_split is_blank a ≡ a ∷ []

@@ -10,7 +10,8 @@ use Rattle.value_cert.specs.Grammar.{has_numbers, next_place, step_of, place_fro
 use Rattle.value_cert.specs.GrammarFacts.{stepped, at_ended}
 use Rattle.value_cert.specs.Lines.{line_words, line_text}
 use Rattle.value_cert.specs.Parsing.{line_of}
-use Rattle.value_cert.specs.ParsingFacts.{line_of-line_words, line_words-without, slice_split-text}
+use Rattle.value_cert.specs.ParsingFacts.{line_of-line_words, line_words-without}
+use Rattle.line_text.specs.ReadingFacts.{slice_split-text}
 use Rattle.value_cert.specs.Texts.{cert_lines, cert_text, lines_text, HasText, IsWhole}
 use Rattle.value_cert.specs.declared.cert.Cert.{Cert}
 use Rattle.value_cert.specs.declared.line.CertLine.{CertLine}

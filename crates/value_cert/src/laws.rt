@@ -10,6 +10,9 @@ ghost use Rattle.value_cert.specs.declared.cert.Cert.{Cert};
 ghost use Rattle.value_cert.specs.declared.lots.LotCert.{LotCert};
 ghost use Rattle.value_cert.specs.declared.line.CertLine.{CertLine};
 ghost use Rattle.value_cert.specs.declared.place.Place.{Place};
+ghost use Rattle.value_cert.specs.declared.flat_line.FlatLine.{FlatLine};
+ghost use Rattle.value_cert.specs.declared.flat_line.FlatPlace.{FlatPlace};
+ghost use Rattle.value_cert.specs.FlatLines as flat;
 
 /// Lines begin a certificate exactly where there is a place behind them, and are one exactly where it has ended there.
 pub fn fronts_have_places()
@@ -35,4 +38,13 @@ pub fn solutions_have_texts()
     ensures levels { (item : NewsvendorItem) (c : NewsCert) → IsNewsvendor item → IsLeastLevelAt item c → c.q ≤ 2 ^ 120 → HasText (Cert.News c) }
     ensures plans { (c : LotCert) → 0 < length c.orders → length c.duals ≡ length c.orders
         → sum c.orders ≤ 2 ^ 120 → sum c.duals ≤ 2 ^ 120 → c.cost ≤ 2 ^ 120 → HasText (Cert.Lots c) }
+{}
+
+/// Lines begin a flat text, which is a head, rows with their numbers and an end, exactly where there is a place behind
+/// them, and are one exactly where it has ended there.
+pub fn flat_fronts_have_places()
+    ensures front { (lines : List FlatLine) (at : FlatPlace) → flat.place_after lines ≡ Some at → flat.IsFront lines }
+    ensures place { (lines : List FlatLine) → flat.IsFront lines → IsSome (flat.place_after lines) }
+    ensures ended { (lines : List FlatLine) → flat.place_after lines ≡ Some FlatPlace.Ended → flat.IsWhole lines }
+    ensures whole { (lines : List FlatLine) → flat.IsWhole lines → flat.place_after lines ≡ Some FlatPlace.Ended }
 {}

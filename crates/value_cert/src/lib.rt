@@ -3,13 +3,17 @@
 
 mod average;
 mod cert;
+mod cert_grammar;
 mod cost;
 mod digits;
 mod finite;
+mod flat_line;
+mod flat_reader;
+mod flat_words;
 mod kinds;
 mod laws;
 mod line;
-mod line_text;
+mod line_writing;
 mod lots;
 mod news;
 mod numbers;
@@ -17,21 +21,22 @@ mod part;
 mod piece;
 mod place;
 mod reader;
-#[cfg(test)]
-mod reader_tests;
 mod serial;
-#[cfg(test)]
-mod tests;
 mod words;
 mod write;
 
 pub use average::{AverageCell, AverageCells, AverageCert};
 pub use cert::Cert;
+pub use cert_grammar::CertGrammar;
 pub use cost::cost_of;
 pub use decision_model::Items;
 pub use finite::{FiniteCell, FiniteCells, FiniteCert, FiniteRow, FiniteRows, scale_of};
+pub use flat_line::{FlatLine, FlatName, FlatPlace};
+pub use flat_reader::{FlatProgress, FlatReader};
+pub use flat_words::parse_flat_line;
 pub use laws::{
-    fronts_have_places, lines_tell_certificates, solutions_have_texts, texts_are_apart,
+    flat_fronts_have_places, fronts_have_places, lines_tell_certificates, solutions_have_texts,
+    texts_are_apart,
 };
 pub use line::{CertLine, Tag};
 pub use lots::LotCert;

@@ -7,7 +7,7 @@ ghost use Rattle.value_cert.specs.Lines.{number_word};
 ghost use Rattle.value_cert.specs.Writes.{output, Writes};
 
 use crate::line::CertLine;
-use crate::line_text::put_line;
+use crate::line_writing::put_line;
 use arrayvec::ArrayVec;
 use itoa::Buffer;
 use stock_edge::{Failed, Sink, write_all};

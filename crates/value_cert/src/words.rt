@@ -4,29 +4,21 @@ ghost use Rattle.std.specs.List.{slice_split};
 ghost use Rattle.std.specs.Str.{bytes_eq};
 ghost use Rattle.decision_model.specs.Kind.{kind_word};
 ghost use Rattle.value_cert.specs.Parsing.{word_number, word_kind, plain_head, discount_head, two_numbers, words_line, line_of};
-ghost use Rattle.value_cert.specs.LineWords.{IsWithout, is_blank, is_plain};
+ghost use Rattle.value_cert.specs.LineWords.{is_blank, is_plain};
 
 use crate::digits::{minus, number_of, plus};
 use crate::kinds::has_certificates;
 use crate::line::CertLine;
 use crate::numbers::{is_unit_fraction, is_whole_number};
 use decision_model::Kind;
+use line_text::split_at_byte;
 use std::str;
 
 // The number of a word of so many bytes is read in 64 bits.
 const SHORT: usize = 36;
 
-// What stands before the first such byte, and what stands behind it; `None` where there is none.
-pub(crate) fn split_at_byte(bytes: &[u8], byte: u8) -> Option<(&[u8], &[u8])>
-    ensures { MatchOption result (IsWithout byte bytes.now) (λ cut.
-        IsWithout byte cut.0.now × (bytes.now ≡ cut.0.now ++ byte ∷ cut.1.now)) }
-{
-    let at = bytes.iter().position(|b| *b == byte)?;
-    Some((&bytes[..at], &bytes[at + 1..]))
-}
-
 // The first word, and what stands behind the blank; `None` where there is one word.
-fn split_word(bytes: &[u8]) -> Option<(&[u8], &[u8])>
+pub(crate) fn split_word(bytes: &[u8]) -> Option<(&[u8], &[u8])>
     ensures { MatchOption result (slice_split is_blank bytes.now ≡ bytes.now ∷ []) (λ cut.
         slice_split is_blank bytes.now ≡ cut.0.now ∷ slice_split is_blank cut.1.now) }
 {
@@ -34,7 +26,7 @@ fn split_word(bytes: &[u8]) -> Option<(&[u8], &[u8])>
 }
 
 // Whether the bytes are those of a text.
-fn is_word(word: &[u8], text: &str) -> bool
+pub(crate) fn is_word(word: &[u8], text: &str) -> bool
     ensures { result ≡ bytes_eq word.now text.now }
 {
     word == text.as_bytes()

@@ -7,7 +7,7 @@ use Rattle.average_lemmas.specs.PlaceSizes.{read_back}
 use Rattle.average_cost.proofs.relative.span.Goals as goal
 
 pub power-weights-requires : goal.power-weights-requires
-power-weights-requires c = rw c.total-2.ensures (weights_fit c.args.item.now c.requires.valid)
+power-weights-requires c = let fits = weights_fit c.args.item.now c.requires.valid in rw c.total-2.ensures (omega (arith, fits))
 
 pub power-places-requires : goal.power-places-requires
 power-places-requires c =

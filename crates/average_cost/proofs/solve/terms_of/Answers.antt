@@ -7,7 +7,7 @@ use Rattle.average_cost.proofs.SolveFacts.{below_fits, moving_fits}
 use Rattle.average_cost.proofs.solve.terms_of.Goals as goal
 
 pub power-weights-requires : goal.power-weights-requires
-power-weights-requires c = rw c.total-total.ensures (weights_fit c.args.item.now c.requires)
+power-weights-requires c = let fits = weights_fit c.args.item.now c.requires in rw c.total-total.ensures (omega (arith, fits))
 
 pub list_moves-requires-clause-many : goal.list_moves-requires-clause-many
 list_moves-requires-clause-many c = omega (arith, c.positions-count.ensures.positions, average_positions_some c.args.item.now c.requires.regular.readable)

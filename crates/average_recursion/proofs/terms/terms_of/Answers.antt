@@ -7,7 +7,7 @@ use Rattle.average_lemmas.specs.PlaceSizes.{power_fits}
 use Rattle.average_recursion.proofs.terms.terms_of.Goals as goal
 
 pub power-weights-requires : goal.power-weights-requires
-power-weights-requires c = rw c.total-total.ensures (weights_fit c.args.average.now c.requires)
+power-weights-requires c = let fits = weights_fit c.args.average.now c.requires in rw c.total-total.ensures (omega (arith, fits))
 
 pub overflow_mul-result : goal.overflow_mul-result
 overflow_mul-result c = let fits = unit_fits c.args.average.now c.requires in rw (c.power-weights.ensures, c.total-total.ensures) (omega (arith, fits))

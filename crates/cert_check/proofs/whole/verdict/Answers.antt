@@ -1,5 +1,5 @@
 use Rattle.std.proofs.Common.{[], ap, ◌∙◌}
-use Rattle.cert_check.specs.Verdicts.{verdict_of}
+use Rattle.line_check.specs.Verdicts.{verdict_of}
 use Rattle.cert_check.proofs.Texts.{own_passes}
 use Rattle.cert_check.proofs.whole.verdict.Goals as goal
 

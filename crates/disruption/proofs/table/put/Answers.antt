@@ -4,8 +4,8 @@ use Rattle.disruption.specs.Tables.{IsTable, Begins, Follows, HasOneMore}
 use Rattle.disruption.proofs.TableFacts.{whole_at, apart_place, begun_before, before_following, table_insert, one_more}
 use Rattle.disruption.proofs.table.put.Goals as goal
 
-pub returns-in-Ok-clause-table : goal.returns-in-Ok-clause-table
-returns-in-Ok-clause-table c =
+pub returns-clause-table : goal.returns-clause-table
+returns-clause-table c =
     let xs = c.args.table.now.items in
     let span = c.args.span in
     let place = c.count_begun-place.result in
@@ -15,10 +15,10 @@ returns-in-Ok-clause-table c =
     subst (λ ys. (i : ℕ) → i < place → Begins span.node span.what span.from (get_or ys i no_span)) same c.count_begun-place.ensures.begun in
     let rest : (i : ℕ) → place ≤ i → i < length xs → Follows span.node span.what span.from (get_or xs i no_span) =
     subst (λ ys. (i : ℕ) → place ≤ i → i < length ys → Follows span.node span.what span.from (get_or ys i no_span)) same c.count_begun-place.ensures.rest in
-    subst IsTable (sym c.in-Ok.ensures.items) (table_insert xs place span c.requires.table within c.requires.whole
+    subst IsTable (sym c.in_ok-insert.ensures.items) (table_insert xs place span c.requires.table within c.requires.whole
     (λ i lt. begun_before span (get_or xs i no_span) c.requires.whole (apart_place xs span i c.requires.apart (omega arith)) (begun i lt))
     (λ i least lt. before_following span (get_or xs i no_span) (whole_at xs i c.requires.table lt) (apart_place xs span i c.requires.apart lt) (rest i least lt)))
 
-pub returns-in-Ok-clause-one_more : goal.returns-in-Ok-clause-one_more
-returns-in-Ok-clause-one_more c =
-    subst (HasOneMore c.args.span c.args.table.now.items) (sym c.in-Ok.ensures.items) (one_more c.args.table.now.items c.count_begun-place.result c.args.span)
+pub returns-clause-one_more : goal.returns-clause-one_more
+returns-clause-one_more c =
+    subst (HasOneMore c.args.span c.args.table.now.items) (sym c.in_ok-insert.ensures.items) (one_more c.args.table.now.items c.count_begun-place.result c.args.span)

@@ -1,7 +1,7 @@
 use Rattle.std.proofs.Common.{map, ◌∙◌, ap, arith}
 use Rattle.std.proofs.lemmas.List.{take_all}
-use Rattle.instance_json.specs.WrittenValues.{amount_data, amounts_data}
-use Rattle.instance_json.proofs.WrittenLists.{view-list}
+use Rattle.json_forms.specs.WrittenValues.{amount_data, amounts_data}
+use Rattle.json_forms.proofs.WrittenLists.{view-list}
 use Rattle.instance_json.proofs.network_values.demands_value.Goals as goal
 
 pub returns : goal.returns

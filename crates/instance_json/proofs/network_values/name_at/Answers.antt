@@ -1,6 +1,7 @@
 use Rattle.std.proofs.Common.{◌≡◌, ℕ, Option, None, sym, ap, ◌∙◌, rules}
-use Rattle.instance_json.specs.Network.{name_text, name_at}
-use Rattle.instance_json.proofs.Texts.{outside_text}
+use Rattle.json_forms.specs.NodeNames.{name_text}
+use Rattle.instance_json.specs.Network.{name_at}
+use Rattle.json_forms.proofs.Texts.{outside_text}
 use Rattle.instance_json.proofs.network_values.name_at.Goals as goal
 
 pub returns-in-None : goal.returns-in-None

@@ -1,7 +1,7 @@
 use Rattle.std.proofs.Common.{◌≡◌, All, ◌++◌, Ok, map, drop}
 use Rattle.serde_json.specs.View.{view}
 use Rattle.decision_model.specs.Nodes.{IsReadableLink}
-use Rattle.instance_json.specs.Steps.{◌>>=◌, each}
+use Rattle.json_forms.specs.Steps.{◌>>=◌, each}
 use Rattle.instance_json.specs.Sources.{source_in}
 use Rattle.instance_json.proofs.sources.listed_sources.Given as goal
 

@@ -15,7 +15,7 @@ loop-place-preserved c =
     let spec : c.index-specs-place.result ≡ node_at c.args.network.now.nodes c.loop-place.place =
     c.index-specs-place.is ∙ get_or_any c.as_slice-specs.result.now c.loop-place.place c.index-specs-place.result no_node in_specs ∙ ap (λ (xs : List NodeSpec). get_or xs c.loop-place.place no_node) c.as_slice-specs.ensures in
     let known = get_or_any c.args.stations.now c.loop-place.place c.index-stations-place.result no_station lt in
-    let e = c.in-Ok.ensures.items in
+    let e = c.in_ok-push.ensures.items in
     record {
       all = ap length e ∙ (let a = length-append c.loop-place.nodes.items (c.in_ok-node.node ∷ []) in let b = c.loop-place.invariant.all in omega arith);
       each = λ k less. ap (λ (xs : List Holding). node xs k) e

@@ -1,4 +1,4 @@
-use Rattle.std.proofs.Common.{◌≡◌, ◌-◌, ◌≤◌, ◌^◌, List, sym, subst, ◌∙◌, ap, arith}
+use Rattle.std.proofs.Common.{◌≡◌, ◌-◌, ◌≤◌, ◌^◌, sym, subst, ◌∙◌, ap, arith}
 use Rattle.demand_law.specs.Law.{IsLaw}
 use Rattle.decision_model.specs.SerialProblem.{law_of_period}
 use Rattle.serial_recursion.proofs.Rooms.{room_values}

@@ -1,5 +1,4 @@
-use Rattle.std.proofs.Common.{rules, ◌≡◌, ◌+◌, ◌-◌, ◌*◌, suc, ℤ, ◌≤ℤ◌, refl, sym, ◌∙◌, ap, subst, arith, FitsSigned, to_z, of_z, to_z-of_z, w64}
-use Rattle.decision_model.specs.DemandLaws.{common_total}
+use Rattle.std.proofs.Common.{rules, ◌≡◌, ◌-◌, ◌*◌, suc, ℤ, ◌≤ℤ◌, sym, ◌∙◌, ap, subst, arith, FitsSigned, to_z, of_z, to_z-of_z, w64}
 use Rattle.decision_model.specs.Positions.{positions_from}
 use Rattle.decision_model.specs.Serial.{serial_low}
 use Rattle.value_cert.specs.SerialValues.{scale, demand_scale}

@@ -1,5 +1,4 @@
-use Rattle.std.proofs.Common.{◌≡◌, ◌+◌, ◌-◌, ◌<◌, ◌≤◌, ℕ, ℤ, refl, arith}
-use Rattle.newsvendor.specs.Least.{first_least_upto}
+use Rattle.std.proofs.Common.{arith}
 use Rattle.serial_recursion.proofs.Turns.{least_none, least_more, better_within}
 use Rattle.serial_recursion.specs.Rows.{value_at}
 use Rattle.serial_recursion.proofs.levels.least_place.Goals as goal

@@ -1,4 +1,4 @@
-use Rattle.std.proofs.Common.{◌≡◌, ◌+◌, ◌-◌, ◌<◌, ◌≤◌, sym, ◌∙◌, arith}
+use Rattle.std.proofs.Common.{◌-◌, sym, ◌∙◌, arith}
 use Rattle.serial_recursion.proofs.Turns.{each_range, fails_range}
 use Rattle.serial_recursion.specs.Rows.{turns_from, value_at}
 use Rattle.serial_recursion.proofs.levels.turns_at.Goals as goal

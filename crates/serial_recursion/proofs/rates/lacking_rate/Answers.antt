@@ -1,4 +1,4 @@
-use Rattle.std.proofs.Common.{◌≡◌, ◌+◌, ◌≤◌, ◌<◌, sum, arith, ap, ◌∙◌}
+use Rattle.std.proofs.Common.{◌+◌, sum, arith, ap, ◌∙◌}
 use Rattle.decision_model.specs.SerialProblem.{lacking_rate}
 use Rattle.serial_recursion.proofs.RateSums.{sum_in_range}
 use Rattle.serial_recursion.proofs.rates.lacking_rate.Goals as goal

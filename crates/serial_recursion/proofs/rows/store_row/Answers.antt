@@ -1,4 +1,4 @@
-use Rattle.std.proofs.Common.{◌≡◌, ◌+◌, ◌≤◌, ◌<◌, pos, rules, arith, to_z-of_z, FitsSigned, slice_index_or}
+use Rattle.std.proofs.Common.{◌≡◌, pos, rules, arith, to_z-of_z, FitsSigned, slice_index_or}
 use Rattle.std.specs.Int.{w128}
 use Rattle.serial_recursion.specs.Rows.{value_at}
 use Rattle.serial_recursion.proofs.Places.{stored_none, stored_more}

@@ -1,10 +1,10 @@
-use Rattle.std.proofs.Common.{rules, ◌≡◌, ℕ, ℤ, List, ◌+◌, ◌*◌, ◌^◌, ◌<◌, ◌≤◌, max, pos, ◌+ℤ◌, ◌-ℤ◌, ◌*ℤ◌, length, slice_index_or, sym, ◌∙◌, ap, subst, arith, FitsSigned, to_z, of_z, to_z-of_z}
+use Rattle.std.proofs.Common.{rules, ◌≡◌, ℤ, ◌+◌, ◌*◌, ◌^◌, ◌≤◌, max, pos, ◌+ℤ◌, ◌-ℤ◌, ◌*ℤ◌, length, slice_index_or, sym, ◌∙◌, ap, subst, arith, FitsSigned, to_z, of_z, to_z-of_z}
 use Rattle.std.specs.Int.{w128}
 use Rattle.std.specs.Prelude.{unsigned_abs}
 use Rattle.std.proofs.lemmas.Int.{ints}
 use Rattle.decision_model.specs.Stock.{stock_cost}
 use Rattle.serial_recursion.proofs.Places.{written_more}
-use Rattle.serial_recursion.proofs.Stocks.{IsWalking, place_lacks, base_lacks, walk_room, sum_told}
+use Rattle.serial_recursion.proofs.Stocks.{place_lacks, base_lacks, walk_room, sum_told}
 use Rattle.serial_recursion.specs.Rows.{place_line, place_value, stock_sum, value_at}
 use Rattle.serial_recursion.proofs.values.value_row.Goals as goal
 

@@ -1,5 +1,5 @@
 use Rattle.std.proofs.Common.{rules, ◌≡◌, ℕ, ◌≤◌, ◌<◌, length, subst, sym, ◌∙◌, ap, arith}
-use Rattle.cert_check.specs.Verdicts.{is_rejection}
+use Rattle.line_check.specs.Verdicts.{is_rejection}
 use Rattle.stock_cli.specs.Causes.{counts_of, RoseAt, NotChecked}
 use Rattle.stock_cli.specs.Checks.{GivesNext}
 use Rattle.stock_cli.specs.Inputs.{origin_of, input_name, content_of}

@@ -1,8 +1,9 @@
-use Rattle.std.proofs.Common.{◌≡◌, ℕ, List, Result, Ok, IfSome, ap, inl, inr, refl, sym, ◌∙◌, subst}
+use Rattle.std.proofs.Common.{◌≡◌, ℕ, List, Option, Result, Ok, IfSome, ap, inl, inr, refl, sym, ◌∙◌, subst}
 use Rattle.std.proofs.lemmas.Result.{IfOk-weaker, IfErr-weaker}
 use Rattle.decision_model.specs.declared.instance.Instance.{Instance}
 use Rattle.value_cert.specs.Meaning.{solved_cert}
 use Rattle.stock_cli.specs.Causes.{ComparesInput, counts_of, FailedAt, IsRefused, IsUnread}
+use Rattle.stock_cli.specs.Checks.{Reaches}
 use Rattle.stock_cli.specs.Inputs.{Content, content_of, origin_of}
 use Rattle.report_text.specs.declared.faults.Fault.{Fault}
 use Rattle.stock_cli.specs.Outcome.{Plan, Planned, check_ending, written}
@@ -64,3 +65,10 @@ pub returns-clause-spared_input : goal.returns-clause-spared_input
 returns-clause-spared_input g c = λ spares.
     c.check.ensures.spared_input (λ standard built. spares (inr (sym standard, stands_said _ _ c.in_ok-instance.ensures.said built)))
     ∙ c.in_ok-instance.ensures.same_input (λ first. spares (inl (sym first)))
+
+pub returns-clause-reach : goal.returns-clause-reach
+returns-clause-reach g c = λ standard.
+    let instance : Instance = c.in_ok-instance.instance in
+    let P : Option (List ℕ) → Type 0 = λ old. Reaches instance old (g.I.Source.left c.check.new.input) in
+    let same = ap g.I.Source.left (c.in_ok-instance.ensures.same_input (λ first. c.requires first standard)) in
+    inr (record { instance = instance; said = c.in_ok-instance.ensures.said; reaches = subst P same (c.check.ensures.reach standard) })

@@ -1,4 +1,4 @@
-use Rattle.std.proofs.Common.{◌≡◌, ℕ, ◌≤◌, List, map, None, length}
+use Rattle.std.proofs.Common.{◌≡◌, ◌≤◌, List, map, None, length}
 use Rattle.std.specs.Io.KnownBytes.{Appends}
 use Rattle.node_state.specs.Handed.{Handed}
 use Rattle.report_text.specs.Network.{first_periods}

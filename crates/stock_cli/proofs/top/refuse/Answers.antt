@@ -5,7 +5,13 @@ use Rattle.stock_edge.specs.Known.{prefix_none}
 use Rattle.stock_cli.proofs.top.refuse.Goals as goal
 
 pub returns-in-WriteFault-clause-told : goal.returns-in-WriteFault-clause-told
-returns-in-WriteFault-clause-told g c = record { told = fault.WriteFault; of = inl (sym c.in-WriteFault.is); status_is = refl; part = c.tell.ensures.part; whole = inr c.tell.ensures.whole }
+returns-in-WriteFault-clause-told g c = record {
+  told = fault.WriteFault;
+  of = inl (sym c.in-WriteFault.is);
+  status_is = refl;
+  part = rw (c.as_bytes.ensures.value, c.cannot_write_text.ensures) at c.tell.ensures.part;
+  whole = inr (rw (c.as_bytes.ensures.value, c.cannot_write_text.ensures) at c.tell.ensures.whole);
+}
 
 pub returns-in-Err : goal.returns-in-Err
 returns-in-Err g c = record {

@@ -1,4 +1,4 @@
-use Rattle.std.proofs.Common.{◌≡◌, ◌++◌, List, ℕ, OnOk, subst, sym}
+use Rattle.std.proofs.Common.{◌≡◌, ◌++◌, OnOk, subst, sym}
 use Rattle.decision_model.specs.declared.instance.Instance.{Instance}
 use Rattle.decision_model.specs.Valid.{IsValid}
 use Rattle.trial_instances.specs.Network.{trial_network_valid}

@@ -1,4 +1,4 @@
-use Rattle.std.proofs.Common.{◌≡◌, ◌++◌, List, ℕ, OnOk, subst, sym}
+use Rattle.std.proofs.Common.{◌≡◌, ◌++◌, OnOk, subst, sym}
 use Rattle.decision_model.specs.declared.instance.Instance.{Instance}
 use Rattle.stock_cli.specs.Trial.{IsTried, solved_line}
 use Rattle.stock_cli.proofs.Trials.{news_is_tried}

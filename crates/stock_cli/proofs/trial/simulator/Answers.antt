@@ -1,4 +1,4 @@
-use Rattle.std.proofs.Common.{[], map, subst}
+use Rattle.std.proofs.Common.{map, subst}
 use Rattle.node_state.specs.Draws.{own_demand}
 use Rattle.node_state.specs.Table.{setting_of}
 use Rattle.network_sim.specs.Simulated.{IsAfter}

@@ -1,5 +1,4 @@
-use Rattle.std.proofs.Common.{◌*◌, ◌^◌, ◌≤◌, ap, arith, ◌∙◌, ◌≡◌}
-use Rattle.decision_model.specs.DemandLaws.{common_total}
+use Rattle.std.proofs.Common.{◌*◌, ◌^◌, ap, arith, ◌∙◌}
 use Rattle.decision_model.specs.WidthFacts.{serial_scale_some}
 use Rattle.value_cert.proofs.serial.serial_scale_of.Goals as goal
 

@@ -1,7 +1,8 @@
 use Rattle.std.proofs.Common.{◌≡◌, ℕ, List, [], ◌∷◌, ◌++◌, MatchOption, Option, Some, None, ap, ◌∙◌, refl, Bor}
 use Rattle.std.specs.List.{slice_split}
 use Rattle.std.proofs.lemmas.List.Splits.{slice_split_none, slice_split_at}
-use Rattle.value_cert.specs.LineWords.{IsWithout, is_blank}
+use Rattle.line_text.specs.LineWords.{IsWithout}
+use Rattle.value_cert.specs.LineWords.{is_blank}
 use Rattle.value_cert.proofs.words.split_word.Goals as goal
 
 -- a cut at the first blank takes off the first word

@@ -1,6 +1,6 @@
 use Rattle.std.proofs.Common.{ap, ◌∙◌, ◌++◌, take, refl, append_assoc}
-use Rattle.cert_check.specs.Verdicts.{is_rejection}
-use Rattle.cert_check.proofs.TextChecks.{taken_on}
+use Rattle.line_check.specs.TextCheckFacts.{taken_on}
+use Rattle.line_check.specs.Verdicts.{is_rejection}
 use Rattle.cert_check.proofs.text_check.TextCheck.push.Goals as goal
 
 pub loop-rest-preserved : goal.loop-rest-preserved

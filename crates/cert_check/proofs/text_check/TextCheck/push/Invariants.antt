@@ -1,6 +1,6 @@
 use Rattle.std.proofs.Common.{true, ◌≡◌, ℕ, List, ◌++◌, length}
 use Rattle.decision_model.specs.declared.instance.Instance.{Instance}
-use Rattle.cert_check.specs.Verdicts.{is_rejection}
+use Rattle.line_check.specs.Verdicts.{is_rejection}
 use Rattle.cert_check.specs.TextChecks.{last_verdict, IsTextCheckOf}
 use Rattle.cert_check.proofs.text_check.TextCheck.push.Given as goal
 

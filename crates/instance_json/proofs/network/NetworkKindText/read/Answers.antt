@@ -1,6 +1,6 @@
 use Rattle.std.proofs.Common.{◌≡◌, ℕ, List, All, length, sym, ap, ◌∙◌, subst, arith}
 use Rattle.decision_model.specs.Pauses.{IsReadableSpan}
-use Rattle.instance_json.specs.Names.{Name}
+use Rattle.json_forms.specs.NodeNames.{Name}
 use Rattle.instance_json.proofs.Places.{names_count}
 use Rattle.instance_json.proofs.network.NetworkKindText.read.Goals as goal
 

@@ -1,4 +1,4 @@
-use Rattle.std.proofs.Common.{rules, ◌≡◌, ◌+◌, ◌-◌, ◌*◌, ◌<◌, ◌≤◌, pos, length, slice_index_or, ◌∙◌, ap, arith, FitsSigned, to_z-of_z}
+use Rattle.std.proofs.Common.{rules, ◌+◌, ◌-◌, ◌*◌, pos, length, slice_index_or, ◌∙◌, ap, arith, FitsSigned, to_z-of_z}
 use Rattle.std.specs.Int.{w128}
 use Rattle.serial_recursion.proofs.Facts.{left_parts, some_period, cell_inside, cells_few}
 use Rattle.serial_recursion.proofs.Known.{valid_known}

@@ -1,4 +1,4 @@
-use Rattle.std.proofs.Common.{rules, ◌≡◌, ◌^◌, ◌≤◌, ℤ, sym, subst, arith, FitsSigned, to_z-of_z, w64}
+use Rattle.std.proofs.Common.{rules, ◌^◌, ◌≤◌, ℤ, sym, subst, arith, FitsSigned, to_z-of_z, w64}
 use Rattle.std.specs.Prelude.{unsigned_abs}
 use Rattle.serial_recursion.proofs.Facts.{left_parts, some_period, low_small}
 use Rattle.serial_recursion.proofs.Frames.{width_most}

@@ -1,8 +1,0 @@
-use Rattle.std.proofs.Common.{◌≡◌, ◌++◌, Ok, map, drop}
-use Rattle.serde_json.specs.View.{view}
-use Rattle.instance_json.specs.Steps.{◌>>=◌, each}
-use Rattle.instance_json.specs.LawTexts.{point_in}
-use Rattle.instance_json.proofs.law_texts.points.Given as goal
-
-abbrev pub invariant-loop-value : goal.invariant-loop-value
-invariant-loop-value l = each point_in (map view l.list) ≡ (each point_in (map view (drop l.value-index l.list)) >>= λ rest. Ok (l.points.items ++ rest))

@@ -1,8 +1,0 @@
-use Rattle.std.proofs.Common.{◌≡◌, map, drop}
-use Rattle.std.specs.List.{list_all}
-use Rattle.serde_json.specs.View.{view}
-use Rattle.instance_json.specs.LawTexts.{is_law}
-use Rattle.instance_json.proofs.laws.are_laws.Given as goal
-
-abbrev pub invariant-loop-value : goal.invariant-loop-value
-invariant-loop-value l = list_all (is_law l.test) (map view l.list) ≡ list_all (is_law l.test) (map view (drop l.value-index l.list))

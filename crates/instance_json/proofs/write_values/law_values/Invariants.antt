@@ -1,7 +1,0 @@
-use Rattle.std.proofs.Common.{◌≡◌, map, take}
-use Rattle.serde_json.specs.View.{view}
-use Rattle.instance_json.specs.WrittenValues.{law_data}
-use Rattle.instance_json.proofs.write_values.law_values.Given as goal
-
-abbrev pub invariant-loop-law : goal.invariant-loop-law
-invariant-loop-law l = map view l.values.items ≡ map law_data (take l.law-index l.laws)

@@ -1,0 +1,8 @@
+use Rattle.std.proofs.Common.{◌≡◌, map, drop}
+use Rattle.std.specs.List.{list_all}
+use Rattle.serde_json.specs.View.{view}
+use Rattle.json_forms.specs.LawTexts.{passes}
+use Rattle.json_forms.proofs.law_texts.all_pass.Given as goal
+
+abbrev pub invariant-loop-value : goal.invariant-loop-value
+invariant-loop-value l = list_all (passes l.test) (map view l.list) ≡ list_all (passes l.test) (map view (drop l.value-index l.list))

@@ -1,0 +1,11 @@
+pub mod Faults
+pub mod Steps
+pub mod Numbers
+pub mod LawTexts
+pub mod Discounts
+pub mod NodeNames
+pub mod Keys
+pub mod WrittenValues
+pub mod Members
+pub mod Items
+pub mod Values

@@ -1,0 +1,10 @@
+use Rattle.std.proofs.Common.{refl, sym, ap}
+use Rattle.line_check.specs.Verdicts.{ended_verdict}
+use Rattle.std.proofs.Common.{Some}
+use Rattle.line_check.proofs.line_check.LineCheck.new.Goals as goal
+
+pub returns : goal.returns
+returns g c = λ of knows goes. record {
+  said = ap ended_verdict (sym goes);
+  passing = λ none. record { unbroken = refl; place = ap Some (sym c.start.ensures); count = refl; known = knows };
+}

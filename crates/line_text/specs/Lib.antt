@@ -1,0 +1,10 @@
+pub mod LineWords
+pub mod Grammar
+pub mod Rules
+pub mod Breaches
+pub mod BreachSteps
+pub mod Reading
+pub mod ReadingFacts
+pub mod Pushes
+pub mod TextBreaches
+pub mod TextBreachFacts

@@ -1,0 +1,62 @@
+use Rattle.value_cert.specs.FlatGrammar.{flat_grammar}
+use Rattle.value_cert.specs.declared.flat_line.FlatPlace.{FlatPlace}
+use Rattle.std.proofs.Common.{subst}
+use Rattle.line_text.specs.Reading.{ReaderState, IsUnfinished}
+use Rattle.line_text.specs.Pushes.{keeps_answers, finishes_answers, answer_reads, answer_refuses, answer_read, answer_lines}
+use Rattle.value_cert.proofs.flat_reader.FlatLines.push.Goals as goal
+
+pub returns-in-None-clause-refuses : goal.returns-in-None-clause-refuses
+returns-in-None-clause-refuses c =
+    let G = flat_grammar c.args.name in
+    let P : ReaderState FlatPlace → Type 0 = λ s. IsUnfinished 256 s.unfinished in
+    let before = subst P c.self.view_is c.self.invariant.2 in
+    answer_refuses G c.args.self.now c.keep.new.self c.args.piece.now c.keep.result
+    (keeps_answers G c.args.self.now c.keep.new.self c.args.piece.now c.keep.result before.without_feed c.in-None.ensures c.keep.ensures.keeps)
+
+pub returns-in-None-clause-read : goal.returns-in-None-clause-read
+returns-in-None-clause-read c =
+    let G = flat_grammar c.args.name in
+    let P : ReaderState FlatPlace → Type 0 = λ s. IsUnfinished 256 s.unfinished in
+    let before = subst P c.self.view_is c.self.invariant.2 in
+    answer_read G c.args.self.now c.keep.new.self c.args.piece.now c.keep.result
+    (keeps_answers G c.args.self.now c.keep.new.self c.args.piece.now c.keep.result before.without_feed c.in-None.ensures c.keep.ensures.keeps)
+
+pub returns-in-None-clause-lines : goal.returns-in-None-clause-lines
+returns-in-None-clause-lines c =
+    let G = flat_grammar c.args.name in
+    let P : ReaderState FlatPlace → Type 0 = λ s. IsUnfinished 256 s.unfinished in
+    let before = subst P c.self.view_is c.self.invariant.2 in
+    answer_lines G c.args.self.now c.keep.new.self c.args.piece.now c.keep.result
+    (keeps_answers G c.args.self.now c.keep.new.self c.args.piece.now c.keep.result before.without_feed c.in-None.ensures c.keep.ensures.keeps)
+
+pub returns-in-Some-clause-reads : goal.returns-in-Some-clause-reads
+returns-in-Some-clause-reads c =
+    let G = flat_grammar c.args.name in
+    let P : ReaderState FlatPlace → Type 0 = λ s. IsUnfinished 256 s.unfinished in
+    let before = subst P c.self.view_is c.self.invariant.2 in
+    answer_reads G c.args.self.now c.finish.new.self c.args.piece.now c.finish.result
+    (finishes_answers G c.args.self.now c.finish.new.self c.args.piece.now c.in-Some.end.now c.in-Some.field-0-1.now c.finish.result before.without_feed c.in-Some.ensures.0 c.in-Some.ensures.1 c.finish.ensures.finishes)
+
+pub returns-in-Some-clause-refuses : goal.returns-in-Some-clause-refuses
+returns-in-Some-clause-refuses c =
+    let G = flat_grammar c.args.name in
+    let P : ReaderState FlatPlace → Type 0 = λ s. IsUnfinished 256 s.unfinished in
+    let before = subst P c.self.view_is c.self.invariant.2 in
+    answer_refuses G c.args.self.now c.finish.new.self c.args.piece.now c.finish.result
+    (finishes_answers G c.args.self.now c.finish.new.self c.args.piece.now c.in-Some.end.now c.in-Some.field-0-1.now c.finish.result before.without_feed c.in-Some.ensures.0 c.in-Some.ensures.1 c.finish.ensures.finishes)
+
+pub returns-in-Some-clause-read : goal.returns-in-Some-clause-read
+returns-in-Some-clause-read c =
+    let G = flat_grammar c.args.name in
+    let P : ReaderState FlatPlace → Type 0 = λ s. IsUnfinished 256 s.unfinished in
+    let before = subst P c.self.view_is c.self.invariant.2 in
+    answer_read G c.args.self.now c.finish.new.self c.args.piece.now c.finish.result
+    (finishes_answers G c.args.self.now c.finish.new.self c.args.piece.now c.in-Some.end.now c.in-Some.field-0-1.now c.finish.result before.without_feed c.in-Some.ensures.0 c.in-Some.ensures.1 c.finish.ensures.finishes)
+
+pub returns-in-Some-clause-lines : goal.returns-in-Some-clause-lines
+returns-in-Some-clause-lines c =
+    let G = flat_grammar c.args.name in
+    let P : ReaderState FlatPlace → Type 0 = λ s. IsUnfinished 256 s.unfinished in
+    let before = subst P c.self.view_is c.self.invariant.2 in
+    answer_lines G c.args.self.now c.finish.new.self c.args.piece.now c.finish.result
+    (finishes_answers G c.args.self.now c.finish.new.self c.args.piece.now c.in-Some.end.now c.in-Some.field-0-1.now c.finish.result before.without_feed c.in-Some.ensures.0 c.in-Some.ensures.1 c.finish.ensures.finishes)
