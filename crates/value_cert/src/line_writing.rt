@@ -18,7 +18,7 @@ fn kind_name(kind: Kind) -> &'static [u8]
 
 // The head without a discount.
 fn put_plain_head(kind: Kind, piece: &mut Piece)
-    requires { array_vec_len piece.old + 128 ≤ 4096 }
+    requires { array_vec_len piece.old + 128 ≤ 16384 }
     ensures { piece.new.items ≡ piece.old.items ++ codes "certificate 1 " ++ kind_word kind ++ 10 ∷ [] }
 {
     put(piece, b"certificate 1 ");
@@ -28,7 +28,7 @@ fn put_plain_head(kind: Kind, piece: &mut Piece)
 
 // The head with a discount.
 fn put_discount_head(kind: Kind, num: i128, den: i128, piece: &mut Piece)
-    requires { array_vec_len piece.old + 128 ≤ 4096 }
+    requires { array_vec_len piece.old + 128 ≤ 16384 }
     ensures { piece.new.items ≡ piece.old.items ++ codes "certificate 2 " ++ kind_word kind ++ number_word num ++ number_word den ++ 10 ∷ [] }
 {
     put(piece, b"certificate 2 ");
@@ -39,7 +39,7 @@ fn put_discount_head(kind: Kind, num: i128, den: i128, piece: &mut Piece)
 }
 
 fn put_head(kind: Kind, num: i128, den: i128, piece: &mut Piece)
-    requires { array_vec_len piece.old + 128 ≤ 4096 }
+    requires { array_vec_len piece.old + 128 ≤ 16384 }
     ensures { piece.new.items ≡ piece.old.items ++ head_words kind num den ++ 10 ∷ [] }
 {
     if is_unit_fraction(num, den) {
@@ -52,7 +52,7 @@ fn put_head(kind: Kind, num: i128, den: i128, piece: &mut Piece)
 // A line of a tag and a number.
 fn put_one(tag: &[u8], number: i128, piece: &mut Piece)
     requires tag { length tag.now ≤ 4 }
-    requires room { array_vec_len piece.old + 128 ≤ 4096 }
+    requires room { array_vec_len piece.old + 128 ≤ 16384 }
     ensures { piece.new.items ≡ piece.old.items ++ tag.now ++ number_word number ++ 10 ∷ [] }
 {
     put(piece, tag);
@@ -63,7 +63,7 @@ fn put_one(tag: &[u8], number: i128, piece: &mut Piece)
 // A line of a tag and two numbers.
 fn put_two(tag: &[u8], first: i128, second: i128, piece: &mut Piece)
     requires tag { length tag.now ≤ 4 }
-    requires room { array_vec_len piece.old + 128 ≤ 4096 }
+    requires room { array_vec_len piece.old + 128 ≤ 16384 }
     ensures { piece.new.items ≡ piece.old.items ++ tag.now ++ number_word first ++ number_word second ++ 10 ∷ [] }
 {
     put(piece, tag);
@@ -75,7 +75,7 @@ fn put_two(tag: &[u8], first: i128, second: i128, piece: &mut Piece)
 // A line of a tag and three numbers.
 fn put_three(tag: &[u8], first: i128, second: i128, third: i128, piece: &mut Piece)
     requires tag { length tag.now ≤ 4 }
-    requires room { array_vec_len piece.old + 128 ≤ 4096 }
+    requires room { array_vec_len piece.old + 128 ≤ 16384 }
     ensures { piece.new.items ≡ piece.old.items ++ tag.now ++ number_word first ++ number_word second ++ number_word third ++ 10 ∷ [] }
 {
     put(piece, tag);
@@ -87,7 +87,7 @@ fn put_three(tag: &[u8], first: i128, second: i128, third: i128, piece: &mut Pie
 
 /// Appends the text of a line, its line feed included.
 pub(crate) fn put_line(line: &CertLine, piece: &mut Piece)
-    requires { array_vec_len piece.old + 128 ≤ 4096 }
+    requires { array_vec_len piece.old + 128 ≤ 16384 }
     ensures { piece.new.items ≡ piece.old.items ++ line_text line.now }
 {
     match *line {

@@ -1,8 +1,6 @@
 // The numbers of certificates.
-ghost use Rattle.std.specs.Prelude.{◌≡◌, ◌^◌, ◌<◌};
+ghost use Rattle.std.specs.Prelude.{◌≡◌};
 ghost use Rattle.value_cert.specs.Numbers.{is_natural, is_whole, is_discount, is_one, is_no_discount};
-
-use fraction128::checked_pow;
 
 /// The greatest size of a number of a certificate.
 const GREATEST: u128 = 1 << 120;
@@ -37,12 +35,4 @@ pub(crate) fn is_no_discount(num: i128, den: i128) -> bool
     ensures { result ≡ is_no_discount num den }
 {
     is_discount_fraction(num, den) && is_unit_fraction(num, den)
-}
-
-// A power that is known to fit.
-pub(crate) fn power(base: u128, times: u32) -> u128
-    requires { base ^ times < 2 ^ 128 }
-    ensures { result ≡ base ^ times }
-{
-    checked_pow(base, times).unwrap_or(0)
 }

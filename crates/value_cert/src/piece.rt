@@ -13,14 +13,14 @@ use itoa::Buffer;
 use stock_edge::{Failed, Sink, write_all};
 
 /// Whole lines that go out in one write.
-pub(crate) type Piece = ArrayVec<u8, 4096>;
+pub(crate) type Piece = ArrayVec<u8, 16384>;
 
 /// No line with its line feed is longer.
 const LONGEST_LINE: usize = 128;
 
 /// Appends bytes.
 pub(crate) fn put(piece: &mut Piece, bytes: &[u8])
-    requires { array_vec_len piece.old + length bytes.now ≤ 4096 }
+    requires { array_vec_len piece.old + length bytes.now ≤ 16384 }
     ensures { piece.new.items ≡ piece.old.items ++ bytes.now }
 {
     let _ = piece.try_extend_from_slice(bytes);
@@ -28,7 +28,7 @@ pub(crate) fn put(piece: &mut Piece, bytes: &[u8])
 
 /// Appends a blank and a number in decimal.
 pub(crate) fn put_number(piece: &mut Piece, number: i128)
-    requires { array_vec_len piece.old + 41 ≤ 4096 }
+    requires { array_vec_len piece.old + 41 ≤ 16384 }
     ensures word { piece.new.items ≡ piece.old.items ++ number_word number }
     ensures short { array_vec_len piece.new ≤ array_vec_len piece.old + 41 }
 {
@@ -53,7 +53,7 @@ pub(crate) fn flush<K: Sink>(piece: &mut Piece, sink: &mut K) -> Result<(), Fail
 fn make_room<K: Sink>(piece: &mut Piece, sink: &mut K) -> Result<(), Failed>
     ensures writes { Writes (output (K.written sink.old) (K.faults sink.old) piece.old.items)
         (output (K.written sink.new) (K.faults sink.new) piece.new.items) result [] }
-    ensures room { OnOk result (array_vec_len piece.new + 128 ≤ 4096) }
+    ensures room { OnOk result (array_vec_len piece.new + 128 ≤ 16384) }
 {
     if piece.remaining_capacity() < LONGEST_LINE {
         return flush(piece, sink);

@@ -13,11 +13,11 @@ ghost use Rattle.value_cert.specs.Writes.{output, Writes};
 ghost use Rattle.value_cert.specs.declared.cert.Cert.{Cert};
 
 use crate::line::{CertLine, Tag, head_line, period_line};
-use crate::numbers::{is_discount_fraction, power};
+use crate::numbers::is_discount_fraction;
 use crate::part::{Part, write_each, write_to_end};
 use crate::piece::{Piece, write_line};
 use decision_model::{Items, Kind, Serial};
-use fraction128::Frac;
+use fraction128::{Frac, power};
 use stock_edge::{Failed, Sink};
 
 /// An echelon stock, and the echelon's part of the cost from there on.

@@ -9,7 +9,7 @@ use crate::kinds::write_lines;
 use crate::piece::{Piece, flush};
 use stock_edge::{Failed, Sink};
 
-/// Writes the text of a certificate, in pieces of at most 4,096 bytes, and takes no memory. After `Failed` a prefix of
+/// Writes the text of a certificate, in pieces of at most 16,384 bytes, and takes no memory. After `Failed` a prefix of
 /// the text was written.
 pub fn write_cert<K: Sink>(cert: &Cert, sink: &mut K) -> Result<(), Failed>
     requires { HasText cert.now }
