@@ -196,6 +196,9 @@ class Test:
             found += ["%s fails, past the last" % kind for kind in done.failed if done.failed[kind] != 0]
         elif done.failed[task.fault.kind] == 0:
             found.append("the fault isn't met")
+        elif task.fault.kind == "write" and task.settings["FAIL_PIECE"] == 0 and done.out and not done.out.endswith(b"\n"):
+            # Output goes out in pieces of whole lines.
+            found.append("out: a piece that ends inside a line")
         else:
             self.met[task.fault.name] += 1
         if found:
