@@ -8,7 +8,7 @@ use Rattle.decision_model.specs.Average.{IsValidAverage, average_positions}
 use Rattle.decision_model.specs.Stock.{HasRoom, stock_cost}
 use Rattle.value_cert.specs.AverageValues.{moving, at_place, lead_demand, stock_sum}
 use Rattle.decision_model.specs.Walks.{IsWalkOf, place_of, over_of, under_of}
-use Rattle.decision_model.specs.declared.walk.Walk.{Walk}
+use Rattle.least_values.specs.declared.walk.Walk.{Walk}
 use Rattle.average_cost.specs.Grids.{AreTerms, IsPlace}
 use Rattle.average_cost.specs.declared.grid.Place.{Place}
 use Rattle.average_cost.specs.declared.grid.Terms.{Terms}

@@ -2,10 +2,11 @@
 ghost use Rattle.std.specs.Prelude.{◌^◌, ◌≡◌, ◌+◌, ◌-◌, ◌<◌, ◌≤◌, IfOk, length, slice_index, pos, ◌+ℤ◌, ◌-ℤ◌, map};
 ghost use Rattle.std.specs.List.{range_with_len};
 ghost use Rattle.decision_model.specs.Average.{IsValidAverage, average_positions};
-ghost use Rattle.value_cert.specs.AverageRules.{IsLeastAverage, average_rules, no_points, solved_average};
+ghost use Rattle.decision_model.specs.declared.instance.Instance.TheVariants as instance;
+ghost use Rattle.value_cert.specs.AverageRules.{IsLeastAverage, solved_average};
 ghost use Rattle.value_cert.specs.AverageValues.{at_place, lead_demand};
-ghost use Rattle.value_cert.specs.Kept.{Keeps};
-ghost use Rattle.value_cert.specs.Texts.{HasText, cert_lines};
+ghost use Rattle.value_cert.specs.Kept.{BreaksNoRule};
+ghost use Rattle.value_cert.specs.Texts.{HasText};
 ghost use Rattle.value_cert.specs.declared.cert.Cert.TheVariants as cert;
 ghost use Rattle.average_cost.specs.Cells.{cell_at};
 ghost use Rattle.average_cost.specs.Grids.{AreTerms};
@@ -122,7 +123,7 @@ pub fn solve_average(alloc: Global, item: &Average) -> Result<AverageCert, Memor
     requires { IsValidAverage item.now }
     ensures exact { IfOk result (λ c. c ≡ solved_average item.now) }
     ensures least { IfOk result (IsLeastAverage item.now) }
-    ensures accepted { IfOk result (λ c. Keeps (average_rules item.now) no_points (cert_lines (cert.Average c))) }
+    ensures accepted { IfOk result (λ c. BreaksNoRule (instance.Average item.now) (cert.Average c)) }
     ensures text { IfOk result (λ c. HasText (cert.Average c)) }
 {
     match certificate(alloc, item) {

@@ -1,5 +1,5 @@
 -- A certificate of an average cost that meets the equations at each place breaks no rule, and has a text.
-use Rattle.std.proofs.Common.{◌≡◌, ℕ, suc, ◌+◌, ◌<◌, ◌≤◌, ℤ, pos, ◌+ℤ◌, ◌-ℤ◌, ◌≤ℤ◌, ◌<ℤ◌, IsTrue, Bool, true, false, if◌then◌else◌, ◌&&◌, nat_eq, nat_le, nat_lt, List, [], ◌∷◌, ◌++◌, length, map, slice_index, slice_index_or, Option, Some, None, refl, sym, ◌∙◌, ap, subst, arith, ◌⊎◌, inl, inr}
+use Rattle.std.proofs.Common.{◌≡◌, ℕ, suc, ◌+◌, ◌<◌, ◌≤◌, ℤ, pos, ◌+ℤ◌, ◌-ℤ◌, ◌≤ℤ◌, ◌<ℤ◌, IsTrue, Bool, true, false, if◌then◌else◌, ◌&&◌, nat_eq, nat_le, nat_lt, List, [], ◌∷◌, ◌++◌, length, map, slice_index, slice_index_or, None, refl, sym, ◌∙◌, ap, subst, arith, ◌⊎◌, inl, inr}
 use Rattle.std.specs.Prelude.{int_le, int_lt}
 use Rattle.std.proofs.lemmas.Bool.{and_from}
 use Rattle.std.proofs.lemmas.Bool.Decides.{nat_tests}
@@ -8,12 +8,15 @@ use Rattle.std.proofs.lemmas.List.{append_assoc}
 use Rattle.decision_model.specs.declared.average.Average.{Average}
 use Rattle.decision_model.specs.Average.{average_positions}
 use Rattle.decision_model.specs.PositionTests.{le_test, le_known}
+use Rattle.decision_model.specs.declared.instance.Instance.TheVariants as instance
 use Rattle.value_cert.specs.Average.{point_line}
-use Rattle.value_cert.specs.AverageRules.{FirstPoints, no_points, cost_in, lower_in, upper_in, is_gain, is_pair, is_lower_entry, is_upper_entry, is_zero_at_high, is_next_point, average_rules}
+use Rattle.value_cert.specs.AverageRules.{FirstPoints, cost_in, lower_in, upper_in, is_gain, is_pair, is_lower_entry, is_upper_entry, is_zero_at_high, is_next_point, average_rules}
 use Rattle.value_cert.specs.AverageValues.{Ratio, at_place, limit, gain, loss, greatest_den, greatest_num}
-use Rattle.value_cert.specs.Kept.{Keeps}
+use Rattle.value_cert.specs.Headings.{heading_of}
+use Rattle.value_cert.specs.Kept.{Keeps, BreaksNoRule, own_head}
 use Rattle.value_cert.specs.Numbers.{is_number}
-use Rattle.value_cert.specs.Texts.{cert_lines}
+use Rattle.value_cert.specs.RuleTests.{same_number, number_at, passing_rule}
+use Rattle.value_cert.specs.Standards.{rules_of}
 use Rattle.value_cert.specs.declared.average.AverageCell.{AverageCell}
 use Rattle.value_cert.specs.declared.average.AverageCert.{AverageCert}
 use Rattle.value_cert.specs.declared.cert.Cert.TheVariants as cert
@@ -22,7 +25,7 @@ use Rattle.fraction128.specs.Reduced.{gcd_of}
 use Rattle.average_lemmas.specs.Agreement.{gain_same}
 use Rattle.average_lemmas.specs.Entries.{length-more}
 use Rattle.average_lemmas.specs.Orders.{by_order, lt_test}
-use Rattle.average_lemmas.specs.RulesKept.{HoldsAt, AreRulesKept, number_test, number_known, before_seam, at_seam}
+use Rattle.average_lemmas.specs.RulesKept.{HoldsAt, AreRulesKept, before_seam, at_seam}
 
 nat_le_test : (a b : ℕ) → a ≤ b → IsTrue (nat_le a b)
 nat_le_test a b h = grind (arith, nat_tests)
@@ -32,11 +35,6 @@ nat_lt_test a b h = grind (arith, nat_tests)
 
 nat_eq_test : (a b : ℕ) → a ≡ b → IsTrue (nat_eq a b)
 nat_eq_test a b h = grind (arith, nat_tests)
-
--- a test that passes leaves the later rules
-goes_on : (b : Bool) (later : Option ℕ) (rule : ℕ) → IsTrue b → later ≡ None → (if b then later else Some rule) ≡ None
-goes_on true later rule h none = none
-goes_on false later rule h none = cc
 
 -- a choice of two tests, by a third
 choose : (b : Bool) {x y : Bool} → (b ≡ true → IsTrue x) → (b ≡ false → IsTrue y) → IsTrue (if b then x else y)
@@ -58,16 +56,16 @@ module _ (item : Average) (g : Ratio) (low high : ℤ) where
       let upper_gain = gain_same item g (slice_index upper) (slice_index (upper ++ cell.upper ∷ later_upper)) k (λ j lt. before_seam upper cell.upper later_upper j (omega (arith, lt, same))) in
       let lower_here = at_seam lower cell.lower later_lower in
       let upper_here : slice_index (upper ++ cell.upper ∷ later_upper) k ≡ cell.upper = ap (slice_index (upper ++ cell.upper ∷ later_upper)) (sym same) ∙ at_seam upper cell.upper later_upper in
-      goes_on (is_next_point item (seen lower upper) cell.at) _ 2
-      (and_from (nat_lt k (average_positions item)) (is_number (at_place item k) cell.at) (nat_lt_test k (average_positions item) holds.inside) (number_test (at_place item k) cell.at holds.position))
-      (goes_on (is_lower_entry item (seen lower upper) cell.lower) _ 5
+      passing_rule (is_next_point item (seen lower upper) cell.at) _ 2
+      (and_from (nat_lt k (average_positions item)) (is_number (at_place item k) cell.at) (nat_lt_test k (average_positions item) holds.inside) (number_at (at_place item k) cell.at (sym holds.position)))
+      (passing_rule (is_lower_entry item (seen lower upper) cell.lower) _ 5
       (and_from (nat_le (cell.lower + loss item g k) (gain item g (slice_index lower) k)) (nat_le cell.lower (limit item g k)) (nat_le_test _ _ (omega (arith, holds.keep, lower_here, lower_gain))) (nat_le_test _ _ (omega (arith, holds.within, lower_here))))
-      (goes_on (is_upper_entry item (seen lower upper) cell.at cell.upper) _ 6
+      (passing_rule (is_upper_entry item (seen lower upper) cell.at cell.upper) _ 6
       (choose (int_le cell.at low)
       (λ t. nat_eq_test cell.upper (limit item g k) (sym upper_here ∙ holds.order (at_most cell.at (at_place item k) holds.position t)))
       (λ f. nat_eq_test (cell.upper + loss item g k) (gain item g (slice_index upper) k) (ap (λ z. z + loss item g k) (sym upper_here) ∙ holds.above (is_above cell.at (at_place item k) holds.position f) ∙ sym upper_gain)))
-      (goes_on (is_zero_at_high (seen lower upper) cell.at cell.upper) None 7
-      (choose (is_number high cell.at) (λ t. nat_eq_test cell.upper 0 (sym upper_here ∙ holds.reached (sym holds.position ∙ number_known high cell.at t))) (λ f. refl))
+      (passing_rule (is_zero_at_high (seen lower upper) cell.at cell.upper) None 7
+      (choose (is_number high cell.at) (λ t. nat_eq_test cell.upper 0 (sym upper_here ∙ holds.reached (sym holds.position ∙ sym (same_number high cell.at t)))) (λ f. refl))
       refl)))
     where
       at_most : (at there : ℤ) → at ≡ there → int_le at low ≡ true → there ≤ℤ low
@@ -83,8 +81,8 @@ module _ (item : Average) (g : Ratio) (low high : ℤ) where
   -- all places from the next one on
   points_kept : (lower upper : List ℕ) (cells : List AverageCell) → length upper ≡ length lower → length lower + length cells ≡ average_positions item
       → ((j : ℕ) (d : AverageCell) → j < length cells → HoldsAt item g low high (slice_index (lower ++ map (λ cell. cell.lower) cells)) (slice_index (upper ++ map (λ cell. cell.upper) cells)) (length lower + j) (slice_index_or cells j d).at)
-      → Keeps (average_rules item) (seen lower upper) (map point_line cells ++ line.End ∷ [])
-  points_kept lower upper [] same many hold = (goes_on (nat_eq (length lower) (average_positions item)) None 2 (nat_eq_test (length lower) (average_positions item) (omega (arith, many))) refl, tt)
+      → Keeps (rules_of (instance.Average item)) (seen lower upper) (map point_line cells ++ line.End ∷ [])
+  points_kept lower upper [] same many hold = (passing_rule (nat_eq (length lower) (average_positions item)) None 2 (nat_eq_test (length lower) (average_positions item) (omega (arith, many))) refl, tt)
   points_kept lower upper (cell ∷ cells) same many hold =
       let more_lower = length-more lower cell.lower in
       let more_upper = length-more upper cell.upper in (
@@ -102,11 +100,11 @@ module _ (item : Average) (g : Ratio) (low high : ℤ) where
           (subst (λ (k : ℕ). HoldsAt item g low high (slice_index (lower ++ cell.lower ∷ map (λ c. c.lower) cells)) (slice_index (upper ++ cell.upper ∷ map (λ c. c.upper) cells)) k (slice_index_or cells j d).at) e here))
 
 -- ---- the whole certificate
-pub rules_kept : (item : Average) (c : AverageCert) → AreRulesKept item c → Keeps (average_rules item) no_points (cert_lines (cert.Average c))
+pub rules_kept : (item : Average) (c : AverageCert) → AreRulesKept item c → BreaksNoRule (instance.Average item) (cert.Average c)
 rules_kept item c is = (
-  refl,
+  own_head (heading_of (instance.Average item)),
   (
-    goes_on (is_gain item c.num c.den) None 3
+    passing_rule (is_gain item c.num c.den) None 3
         (and_from (nat_le 1 c.den && nat_le c.den (greatest_den item (average_positions item)) && nat_eq (gcd_of c.num c.den) 1) (nat_le c.num (greatest_num item c.den))
         (and_from (nat_le 1 c.den && nat_le c.den (greatest_den item (average_positions item))) (nat_eq (gcd_of c.num c.den) 1)
         (and_from (nat_le 1 c.den) (nat_le c.den (greatest_den item (average_positions item))) (nat_le_test 1 c.den is.den_some) (nat_le_test c.den (greatest_den item (average_positions item)) is.den_small))
@@ -114,7 +112,7 @@ rules_kept item c is = (
         (nat_le_test c.num (greatest_num item c.den) is.num_small))
         refl,
     (
-      goes_on (is_pair item c.low c.high) None 4
+      passing_rule (is_pair item c.low c.high) None 4
           (and_from (int_le (item.floor -ℤ pos 1) c.low && int_lt c.low c.high) (int_le c.high item.cap)
           (and_from (int_le (item.floor -ℤ pos 1) c.low) (int_lt c.low c.high) (le_test (item.floor -ℤ pos 1) c.low (down item.floor c.low is.pair.above)) (lt_test c.low c.high is.pair.ordered))
           (le_test c.high item.cap is.pair.within))

@@ -19,9 +19,16 @@ use Rattle.policy_bound.specs.PolicyBound.{lower_bound, upper_bound}
 use Rattle.value_cert.specs.AverageLeast.{pair_choice, pair_policy, IsAtMost, IsAtLeast, AverageLeast, IsPair}
 use Rattle.value_cert.specs.AverageValues.{Ratio, stock_sum}
 use Rattle.average_lemmas.specs.Orders.{by_order, order_charge_is, no_order_charge, choice_up, choice_stays, least_numbers, most_numbers}
-use Rattle.average_lemmas.specs.PositionValues.{IsLower, IsUpper, IsSpan}
+use Rattle.average_lemmas.specs.PositionValues.{setup_value, IsLower, IsUpper, IsReached, IsSpan}
 use Rattle.average_lemmas.specs.Scaled.{scaled, expected-scaled, no_discount}
 use Rattle.average_lemmas.specs.Steps.{worth, worth_at, step_worth, step_is, step_below, step_above}
+
+-- values that the policy of a pair reaches
+exact_reached : (item : Average) (g : Ratio) (scale : ℕ) (low high : ℤ) (r : ℤ → ℕ) → IsUpper item g scale low high r → IsReached item g scale low high r
+exact_reached item g scale low high r upper = record {
+  order = λ x le. omega (arith, upper.order x le, upper.reached);
+  keep = λ y above top. omega (arith, upper.keep y above top);
+}
 
 minus_times : (t b : ℕ) → pos t *ℤ (pos 0 -ℤ pos b) ≡ pos 0 -ℤ pos (t * b)
 minus_times t b =
@@ -87,7 +94,7 @@ module _ (item : Average) (g : Ratio) (scale : ℕ) where
         (subst (λ (z : ℤ). pos (worth item g scale r (suc k) x) ≤ℤ z) (sym (step_is item g scale r n start k t x y e)) (omega (arith, ints)))
 
   -- ---- the pair reaches the upper values
-  module _ (low high : ℤ) (pair : IsPair item low high) (r : ℤ → ℕ) (upper : IsUpper item g scale low high r) (n : ℕ) (start : ℤ) where
+  module _ (low high : ℤ) (pair : IsPair item low high) (r : ℤ → ℕ) (upper : IsReached item g scale low high r) (n : ℕ) (start : ℤ) where
     choice_reaches : (k : ℕ) (x : ℤ) → x ≤ℤ item.cap → step_worth item g scale r k x (pair_choice low high x) ≤ worth item g scale r (suc k) x
     choice_reaches k x top = go (by_order x low)
       where
@@ -96,7 +103,7 @@ module _ (item : Average) (g : Ratio) (scale : ℕ) where
             rw (choice_up low high x le) (step_above item g scale r k x high (
             let cost = order_charge_is item x high (omega (arith, ints, pair.ordered)) in
             let whole = ap (λ o. g.den * scale * sum item.law ^ suc item.lead * o) cost in
-            omega (arith, upper.keep high pair.ordered pair.within, ap (λ k. sum item.law * k) upper.reached, ap (λ k. sum item.law * k) (upper.order x le), whole, ap (λ k. g.den * scale * k * item.setup) (pow-suc (sum item.law) item.lead))
+            omega (arith, upper.keep high pair.ordered pair.within, mul-le-mul_left (sum item.law) (upper.order x le), whole, ap (λ k. g.den * scale * k * item.setup) (pow-suc (sum item.law) item.lead))
             ))
         go (inr lt) =
             rw (choice_stays low high x lt) (step_above item g scale r k x x (
@@ -113,7 +120,7 @@ module _ (item : Average) (g : Ratio) (scale : ℕ) where
         go (inl le) = rw (choice_up low high x le) (omega (arith, ints, pair.ordered), omega (arith, ints, pair.ordered, pair.above), pair.within)
         go (inr lt) = rw (choice_stays low high x lt) (omega (arith, ints), omega (arith, ints, pair.above), top)
 
-    policy_allowed : (k t : ℕ) (x : ℤ) → x ≤ℤ item.cap → IsAllowedFrom (average_problem item n start) k t x (pair_policy low high x)
+    pub policy_allowed : (k t : ℕ) (x : ℤ) → x ≤ℤ item.cap → IsAllowedFrom (average_problem item n start) k t x (pair_policy low high x)
     policy_allowed zero t x top = tt
     policy_allowed (suc k) t x top =
         let y = pair_choice low high x in
@@ -138,7 +145,7 @@ module _ (item : Average) (g : Ratio) (scale : ℕ) where
 -- ---- the theorem
 module _ (item : Average) (g span : Ratio) (scale : ℕ) (some : 1 ≤ scale) where
   -- a value that no other passes, by the span
-  never_below : (r : ℤ → ℕ) → IsLower item g scale r → (b : ℕ) → ((x : ℤ) → r x ≤ b) → span.den * b ≤ span.num * (g.den * sum item.law ^ item.lead * scale)
+  pub never_below : (r : ℤ → ℕ) → IsLower item g scale r → (b : ℕ) → ((x : ℤ) → r x ≤ b) → span.den * b ≤ span.num * (g.den * sum item.law ^ item.lead * scale)
       → (n : ℕ) (start : ℤ) (other : Policy ℤ) → start ≤ℤ item.cap → IsAllowed (average_problem item n start) other → IsAtLeast n g span (sum item.law ^ (n + item.lead)) (expected (average_problem item n start) other)
   never_below r low b most within n start other start_low ok =
       let w = sum item.law in
@@ -157,7 +164,7 @@ module _ (item : Average) (g span : Ratio) (scale : ℕ) (some : 1 ≤ scale) wh
       (subst (λ (z : ℤ). (V 1 start +ℤ rest_from p V n 1 start other) ≤ℤ z) (expected-scaled c (average_problem item n start) other) bound) in
       rw power (least_numbers n g.num g.den span.num span.den scale (w ^ n) (w ^ item.lead) b (r start) (expected (average_problem item n start) other) (rest_from p V n 1 start other) some whole rest within)
 
-  never_above : (low high : ℤ) → IsPair item low high → (r : ℤ → ℕ) → IsUpper item g scale low high r → IsSpan item g scale r span → (b : ℕ) → ((x : ℤ) → r x ≤ b)
+  pub never_above : (low high : ℤ) → IsPair item low high → (r : ℤ → ℕ) → IsReached item g scale low high r → IsSpan item g scale r span → (b : ℕ) → ((x : ℤ) → r x ≤ b)
       → (n : ℕ) (start : ℤ) → start ≤ℤ item.cap → IsAtMost n g span (sum item.law ^ (n + item.lead)) (expected (average_problem item n start) (pair_policy low high start))
   never_above low high pair r upper is_span b most n start start_low =
       let w = sum item.law in
@@ -182,8 +189,11 @@ module _ (item : Average) (g span : Ratio) (scale : ℕ) (some : 1 ≤ scale) wh
   average_least g_some span_some low high pair lower upper is_lower is_upper b most_lower most_upper within = record {
     g_some = g_some;
     span_some = span_some;
-    allowed = λ n start some start_low. policy_allowed item g scale low high pair upper is_upper n start n 1 start start_low;
-    most = λ n start some start_low. never_above low high pair upper is_upper (λ x. omega (arith, mul-le-mul_left span.den (most_upper x))) b most_upper n start start_low;
-    enough = λ n start some start_low. never_below lower is_lower b most_lower within n start (pair_policy low high start) start_low (policy_allowed item g scale low high pair upper is_upper n start n 1 start start_low);
+    allowed = λ n start some start_low. policy_allowed item g scale low high pair upper reached n start n 1 start start_low;
+    most = λ n start some start_low. never_above low high pair upper reached (λ x. omega (arith, mul-le-mul_left span.den (most_upper x))) b most_upper n start start_low;
+    enough = λ n start some start_low. never_below lower is_lower b most_lower within n start (pair_policy low high start) start_low (policy_allowed item g scale low high pair upper reached n start n 1 start start_low);
     least = λ n start other some start_low ok. never_below lower is_lower b most_lower within n start other start_low ok;
   }
+    where
+      reached : IsReached item g scale low high upper
+      reached = exact_reached item g scale low high upper is_upper

@@ -23,6 +23,12 @@ pub record IsUpper (item : Average) (g : Ratio) (scale : ℕ) (low high : ℤ) (
       g.num * scale * sum item.law ^ suc item.lead + sum item.law * r y ≡ g.den * scale * stock_sum item y + counted item.law (λ d. r (y -ℤ pos d))
   pub reached : r high ≡ 0
 
+-- values that no step of the policy of a pair passes
+pub record IsReached (item : Average) (g : Ratio) (scale : ℕ) (low high : ℤ) (r : ℤ → ℕ) : Type 0 where
+  pub order : (x : ℤ) → x ≤ℤ low → r high + setup_value item g scale ≤ r x
+  pub keep : (y : ℤ) → low <ℤ y → y ≤ℤ item.cap →
+      g.den * scale * stock_sum item y + counted item.law (λ d. r (y -ℤ pos d)) ≤ g.num * scale * sum item.law ^ suc item.lead + sum item.law * r y
+
 -- no value is above a span
 abbrev pub IsSpan : Average → Ratio → ℕ → (ℤ → ℕ) → Ratio → Type 0
 IsSpan item g scale r span = (x : ℤ) → span.den * r x ≤ span.num * (g.den * sum item.law ^ item.lead * scale)

@@ -1,6 +1,6 @@
 -- A certificate of an average cost that breaks no rule meets the equations at each place, so its pair has least average
 -- cost.
-use Rattle.std.proofs.Common.{◌≡◌, ℕ, zero, suc, ◌+◌, ◌*◌, ◌^◌, ◌<◌, ◌≤◌, ℤ, pos, ◌+ℤ◌, ◌-ℤ◌, ◌≤ℤ◌, ◌<ℤ◌, IsTrue, Bool, true, false, if◌then◌else◌, ◌&&◌, nat_eq, nat_le, nat_lt, List, [], ◌∷◌, ◌++◌, length, map, slice_index, slice_index_or, sum, Option, Some, None, refl, sym, ◌∙◌, ap, subst, arith, ◌⊎◌, inl, inr}
+use Rattle.std.proofs.Common.{◌≡◌, ℕ, zero, suc, ◌+◌, ◌*◌, ◌^◌, ◌<◌, ◌≤◌, ℤ, pos, ◌+ℤ◌, ◌-ℤ◌, ◌≤ℤ◌, ◌<ℤ◌, IsTrue, Bool, true, false, if◌then◌else◌, ◌&&◌, nat_eq, nat_le, nat_lt, List, [], ◌∷◌, ◌++◌, length, map, slice_index, slice_index_or, sum, None, refl, sym, ◌∙◌, ap, subst, arith, ◌⊎◌, inl, inr}
 use Rattle.std.specs.Prelude.{int_le, int_lt}
 use Rattle.std.proofs.lemmas.Bool.{and_parts}
 use Rattle.std.proofs.lemmas.Bool.Decides.{nat_tests}
@@ -16,14 +16,16 @@ use Rattle.decision_model.specs.Average.{IsReadableAverage, IsValidAverage, aver
 use Rattle.decision_model.specs.Positions.{above_zero}
 use Rattle.fraction128.specs.Reduced.{gcd_of}
 use Rattle.decision_model.specs.PositionTests.{le_known, le_test, above_zero_is}
+use Rattle.decision_model.specs.declared.instance.Instance.TheVariants as instance
 use Rattle.value_cert.specs.Average.{point_line}
 use Rattle.value_cert.specs.AverageLeast.{IsPair, MeetsEquations}
-use Rattle.value_cert.specs.AverageRules.{FirstPoints, no_points, cost_in, lower_in, upper_in, span_den, span_of, IsLeastAverage, is_gain, is_pair, is_lower_entry, is_upper_entry, is_zero_at_high, is_next_point, average_rules}
+use Rattle.value_cert.specs.AverageRules.{FirstPoints, cost_in, lower_in, upper_in, span_den, span_of, IsLeastAverage, is_gain, is_pair, is_lower_entry, is_upper_entry, is_zero_at_high, is_next_point, average_rules}
 use Rattle.value_cert.specs.AverageValues.{Ratio, moving, at_place, limit, gain, loss, greatest_den, greatest_num}
-use Rattle.value_cert.specs.Kept.{Keeps}
+use Rattle.value_cert.specs.Kept.{Keeps, BreaksNoRule}
 use Rattle.value_cert.specs.Numbers.{is_number}
+use Rattle.value_cert.specs.RuleTests.{same_number, number_at, rule_passed}
+use Rattle.value_cert.specs.Standards.{rules_of}
 use Rattle.value_cert.specs.declared.average.AverageCell.{AverageCell}
-use Rattle.value_cert.specs.Texts.{cert_lines}
 use Rattle.value_cert.specs.declared.average.AverageCert.{AverageCert}
 use Rattle.value_cert.specs.declared.cert.Cert.TheVariants as cert
 use Rattle.value_cert.specs.declared.line.CertLine.TheVariants as line
@@ -33,25 +35,6 @@ use Rattle.average_lemmas.specs.SpanFacts.{span_is}
 use Rattle.average_lemmas.specs.Tables.{sum_first}
 
 -- ---- tests
--- a test that passes leaves the later rules
-passes : (b : Bool) (later : Option ℕ) (rule : ℕ) → (if b then later else Some rule) ≡ None → IsTrue b × (later ≡ None)
-passes true later rule h = (refl, h)
-passes false later rule h = cc
-
--- the number is the wanted one
-pub number_known : (wanted number : ℤ) → IsTrue (is_number wanted number) → number ≡ wanted
-number_known wanted number h =
-    let both = and_parts (int_le wanted number) (int_le number wanted) h in
-    omega (arith, ints, le_known wanted number both.0, le_known number wanted both.1)
-
--- and where it is, the test says so
-pub number_test : (wanted number : ℤ) → number ≡ wanted → is_number wanted number ≡ true
-number_test wanted number e = rw e (both (int_le wanted wanted) (le_test wanted wanted (omega (arith, ints))))
-  where
-    both : (b : Bool) → IsTrue b → (b && b) ≡ true
-    both true h = refl
-    both false h = cc
-
 nat_le_known : (a b : ℕ) → IsTrue (nat_le a b) → a ≤ b
 nat_le_known a b h = grind (arith, nat_tests)
 
@@ -98,12 +81,12 @@ module _ (item : Average) (g : Ratio) (low high : ℤ) where
       → HoldsAt item g low high (slice_index (lower ++ cell.lower ∷ later_lower)) (slice_index (upper ++ cell.upper ∷ later_upper)) (length lower) cell.at
   place_holds lower upper later_lower later_upper cell same none =
       let k = length lower in
-      let next = passes (is_next_point item (known lower upper) cell.at) _ 2 none in
-      let low_entry = passes (is_lower_entry item (known lower upper) cell.lower) _ 5 next.1 in
-      let up_entry = passes (is_upper_entry item (known lower upper) cell.at cell.upper) _ 6 low_entry.1 in
-      let zero_entry = passes (is_zero_at_high (known lower upper) cell.at cell.upper) _ 7 up_entry.1 in
+      let next = rule_passed (is_next_point item (known lower upper) cell.at) _ 2 none in
+      let low_entry = rule_passed (is_lower_entry item (known lower upper) cell.lower) _ 5 next.1 in
+      let up_entry = rule_passed (is_upper_entry item (known lower upper) cell.at cell.upper) _ 6 low_entry.1 in
+      let zero_entry = rule_passed (is_zero_at_high (known lower upper) cell.at cell.upper) _ 7 up_entry.1 in
       let place = and_parts (nat_lt k (average_positions item)) (is_number (at_place item k) cell.at) next.0 in
-      let position = number_known (at_place item k) cell.at place.1 in
+      let position = sym (same_number (at_place item k) cell.at place.1) in
       let within = and_parts (nat_le (cell.lower + loss item g k) (gain item g (slice_index lower) k)) (nat_le cell.lower (limit item g k)) low_entry.0 in
       let lower_gain = gain_same item g (slice_index lower) (slice_index (lower ++ cell.lower ∷ later_lower)) k (λ j lt. before_seam lower cell.lower later_lower j lt) in
       let upper_gain = gain_same item g (slice_index upper) (slice_index (upper ++ cell.upper ∷ later_upper)) k (λ j lt. before_seam upper cell.upper later_upper j (omega (arith, lt, same))) in
@@ -132,15 +115,15 @@ module _ (item : Average) (g : Ratio) (low high : ℤ) where
       kept_there k at entry a e lt (inr (f, h)) = nat_eq_known (entry + loss item g k) (gain item g a k) h
 
       zero_there : (at : ℤ) (entry : ℕ) → at ≡ high → IsTrue (if is_number high at then nat_eq entry 0 else true) → entry ≡ 0
-      zero_there at entry e h = nat_eq_known entry 0 (subst (λ (b : Bool). IsTrue (if b then nat_eq entry 0 else true)) (number_test high at e) h)
+      zero_there at entry e h = nat_eq_known entry 0 (subst (λ (b : Bool). IsTrue (if b then nat_eq entry 0 else true)) (number_at high at (sym e)) h)
 
   -- all places from the next one on, and there are no more of them than the grid has
   points_hold : (lower upper : List ℕ) (cells : List AverageCell) → length upper ≡ length lower
-      → Keeps (average_rules item) (known lower upper) (map point_line cells ++ line.End ∷ [])
+      → Keeps (rules_of (instance.Average item)) (known lower upper) (map point_line cells ++ line.End ∷ [])
       → (length lower + length cells ≡ average_positions item)
       × ((j : ℕ) (d : AverageCell) → j < length cells → HoldsAt item g low high (slice_index (lower ++ map (λ cell. cell.lower) cells)) (slice_index (upper ++ map (λ cell. cell.upper) cells)) (length lower + j) (slice_index_or cells j d).at)
   points_hold lower upper [] same kept =
-      let whole = passes (nat_eq (length lower) (average_positions item)) None 2 kept.0 in
+      let whole = rule_passed (nat_eq (length lower) (average_positions item)) None 2 kept.0 in
       (omega (arith, nat_eq_known (length lower) (average_positions item) whole.0), λ j d lt. absurd (omega (arith, lt)))
   points_hold lower upper (cell ∷ cells) same kept =
       let more_lower = length-snoc lower cell.lower in
@@ -174,10 +157,10 @@ pub record AreRulesKept (item : Average) (c : AverageCert) : Type 0 where
   pub many : length c.cells ≡ average_positions item
   pub places : (k : ℕ) (d : AverageCell) → k < length c.cells → HoldsAt item (cost_in c) c.low c.high (slice_index (lower_in c)) (slice_index (upper_in c)) k (slice_index_or c.cells k d).at
 
-pub rules_say : (item : Average) (c : AverageCert) → Keeps (average_rules item) no_points (cert_lines (cert.Average c)) → AreRulesKept item c
+pub rules_say : (item : Average) (c : AverageCert) → BreaksNoRule (instance.Average item) (cert.Average c) → AreRulesKept item c
 rules_say item c kept =
-    let cost = passes (is_gain item c.num c.den) None 3 kept.1.0 in
-    let order = passes (is_pair item c.low c.high) None 4 kept.1.1.0 in
+    let cost = rule_passed (is_gain item c.num c.den) None 3 kept.1.0 in
+    let order = rule_passed (is_pair item c.low c.high) None 4 kept.1.1.0 in
     let three = and_parts (nat_le 1 c.den && nat_le c.den (greatest_den item (average_positions item)) && nat_eq (gcd_of c.num c.den) 1) (nat_le c.num (greatest_num item c.den)) cost.0 in
     let two = and_parts (nat_le 1 c.den && nat_le c.den (greatest_den item (average_positions item))) (nat_eq (gcd_of c.num c.den) 1) three.0 in
     let one = and_parts (nat_le 1 c.den) (nat_le c.den (greatest_den item (average_positions item))) two.0 in
@@ -238,7 +221,7 @@ positions_count item readable = count item.floor item.cap readable.floor_below
     count floor cap le = omega (arith, ints, above_zero_is (cap -ℤ floor +ℤ pos 1) (omega (arith, ints, le)))
 
 -- what the certificate claims holds
-pub average_certifies : (item : Average) (c : AverageCert) → IsValidAverage item → Keeps (average_rules item) no_points (cert_lines (cert.Average c)) → IsLeastAverage item c
+pub average_certifies : (item : Average) (c : AverageCert) → IsValidAverage item → BreaksNoRule (instance.Average item) (cert.Average c) → IsLeastAverage item c
 average_certifies item c valid kept =
     let is = rules_say item c kept in
     let regular = valid.regular in

@@ -12,11 +12,11 @@ use Rattle.fraction128.specs.Reduced.{gcd_of}
 use Rattle.decision_model.specs.declared.average.Average.{Average}
 use Rattle.decision_model.specs.Average.{IsValidAverage, average_positions}
 use Rattle.decision_model.specs.PositionTests.{le_test}
+use Rattle.decision_model.specs.declared.instance.Instance.TheVariants as instance
 use Rattle.value_cert.specs.AverageLeast.{MeetsEquations}
-use Rattle.value_cert.specs.AverageRules.{no_points, cost_in, lower_in, upper_in, IsLeastAverage, average_rules, first_zero, first_cheap, certificate_with, solved_average}
+use Rattle.value_cert.specs.AverageRules.{cost_in, lower_in, upper_in, IsLeastAverage, first_zero, first_cheap, certificate_with, solved_average}
 use Rattle.value_cert.specs.AverageValues.{Ratio, moving, at_place, stock_sum, limit, gain, loss, is_cheap, is_zero_place, lower_entries, upper_entries, average_cost_of}
-use Rattle.value_cert.specs.Kept.{Keeps}
-use Rattle.value_cert.specs.Texts.{cert_lines}
+use Rattle.value_cert.specs.Kept.{BreaksNoRule}
 use Rattle.value_cert.specs.declared.average.AverageCell.{AverageCell}
 use Rattle.value_cert.specs.declared.average.AverageCert.{AverageCert}
 use Rattle.value_cert.specs.declared.cert.Cert.TheVariants as cert
@@ -194,7 +194,7 @@ module _ (item : Average) (valid : IsValidAverage item) where
       }
 
   -- it breaks no rule
-  pub solved_kept : Keeps (average_rules item) no_points (cert_lines (cert.Average (solved_average item)))
+  pub solved_kept : BreaksNoRule (instance.Average item) (cert.Average (solved_average item))
   solved_kept = rules_kept item (solved_average item) solved_rules
 
   -- and what it claims holds

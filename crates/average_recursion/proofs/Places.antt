@@ -3,7 +3,7 @@ use Rattle.std.proofs.Common.{◌≡◌, ℕ, suc, ◌+◌, ◌-◌, ◌/◌, �
 use Rattle.std.proofs.lemmas.Int.{ints}
 use Rattle.std.proofs.Math.Nat.{mul-div_cancel}
 use Rattle.decision_model.specs.declared.average.Average.{Average}
-use Rattle.decision_model.specs.declared.walk.Walk.{Walk}
+use Rattle.least_values.specs.declared.walk.Walk.{Walk}
 use Rattle.decision_model.specs.Average.{IsValidAverage, average_positions}
 use Rattle.decision_model.specs.Stock.{HasRoom, stock_cost}
 use Rattle.decision_model.specs.Walks.{IsWalkOf, place_of, over_of, under_of}

@@ -13,7 +13,6 @@ use Rattle.decision_model.specs.FiniteProblem.{top}
 use Rattle.decision_model.specs.FiniteSound.{sound_readable, low_zero, up_to_cap}
 use Rattle.decision_model.specs.PositionTests.{le_test, le_known, above_zero_is}
 use Rattle.finite_lemmas.specs.LeastTest.{allowed_rule}
-use Rattle.finite_lemmas.specs.NumberTests.{number_at, number_other}
 use Rattle.finite_recursion.specs.Recursions.{finite_of, KnowsRows, next_position, next_at, is_whole}
 use Rattle.finite_lemmas.specs.SolvedRows.{row_width_is}
 use Rattle.finite_recursion.specs.Rows.{row_period}
@@ -21,6 +20,7 @@ use Rattle.finite_recursion.specs.declared.recursion.Recursion.{Recursion}
 use Rattle.value_cert.specs.FiniteRules.{FirstRows, is_row_whole, is_next_position, is_next_period, is_allowed, last_period, value_rule, position_rule}
 use Rattle.value_cert.specs.FiniteValues.{value_of, least_choice, row_width}
 use Rattle.value_cert.specs.Numbers.{is_number}
+use Rattle.value_cert.specs.RuleTests.{number_at, number_other}
 
 -- ---- plain tests
 -- a number that is tested to be below another one, with both seen as other numbers

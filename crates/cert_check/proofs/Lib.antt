@@ -5,6 +5,7 @@ pub mod LotOrders
 pub mod LotChecks
 pub mod LotLines
 pub mod Kept
+pub mod KnownLines
 pub mod ProvenNews
 pub mod ProvenLots
 pub mod FiniteLines
@@ -14,4 +15,5 @@ pub mod SerialLines
 pub mod ProvenSerial
 pub mod ProvenNetwork
 pub mod ProvenKinds
+pub mod Heads
 pub mod Texts

@@ -1,6 +1,6 @@
 -- A newsvendor's check answers as the rules say, a certificate that breaks none names the first level of least cost, and the solver's breaks none.
-use Rattle.std.proofs.Common.{◌≡◌, ℕ, zero, suc, ◌+◌, ◌*◌, ◌^◌, ◌<◌, ◌≤◌, lit≤, Bool, true, false, cond, not, ◌&&◌, ◌||◌, leb, List, ℤ, pos, negsuc, ◌-ℤ◌, ◌≤ℤ◌, length, sum, Option, Some, None, refl, sym, ap, ◌∙◌, subst, arith}
-use Rattle.std.specs.Prelude.{int_le, unsigned_abs}
+use Rattle.std.proofs.Common.{◌≡◌, ℕ, zero, suc, ◌+◌, ◌*◌, ◌^◌, ◌<◌, ◌≤◌, lit≤, Bool, true, false, cond, not, ◌||◌, leb, List, ℤ, pos, negsuc, ◌-ℤ◌, ◌≤ℤ◌, length, sum, Option, Some, None, refl, sym, ap, ◌∙◌, subst, arith}
+use Rattle.std.specs.Prelude.{unsigned_abs}
 use Rattle.std.proofs.lemmas.Int.{ints}
 use Rattle.std.proofs.lemmas.Bool.{leb-true, false≢true}
 use Rattle.std.proofs.lemmas.Bool.Decides.{nat_tests}
@@ -14,23 +14,24 @@ use Rattle.newsvendor.specs.Solved.{solved_is_least, reached_by_least, first_by_
 use Rattle.decision_model.specs.declared.instance.Instance.{Instance}
 use Rattle.decision_model.specs.declared.instance.Instance.TheVariants as instance
 use Rattle.value_cert.specs.HasTexts.{least_level_text}
+use Rattle.value_cert.specs.Headings.{heading_of}
 use Rattle.value_cert.specs.NewsRules.{reaches_ratio, is_first_level, level_rule, cost_rule, named_level, news_rule, news_rules, CertifiesLevel, solved_news}
-use Rattle.value_cert.specs.NumberFacts.{both}
 use Rattle.value_cert.specs.Numbers.{is_number}
-use Rattle.value_cert.specs.Texts.{cert_lines, HasText}
+use Rattle.value_cert.specs.RuleTests.{same_number, number_at, rule_passed}
+use Rattle.value_cert.specs.Texts.{HasText}
 use Rattle.value_cert.specs.declared.cert.Cert.{Cert}
 use Rattle.value_cert.specs.declared.cert.Cert.TheVariants as cert
 use Rattle.value_cert.specs.declared.line.CertLine.{CertLine}
-use Rattle.cert_check.specs.Answers.{AnswersLine}
+use Rattle.cert_check.specs.Answers.{AnswersBehindHead}
 use Rattle.cert_check.specs.NewsChecks.{KnowsNews}
 use Rattle.cert_check.specs.declared.news.NewsCheck.{NewsCheck}
-use Rattle.value_cert.specs.Kept.{Keeps, known_of-more}
+use Rattle.value_cert.specs.Kept.{BreaksNoRule, own_head, known_of-more}
 use Rattle.cert_check.proofs.Levels.{above_none}
 
 -- ---- the answers
 pub news_answers : (item : Instance) (before : List CertLine) (line : CertLine) (old new : NewsCheck) (answer : Option ℕ)
     → KnowsNews old item before → new.newsvendor.now ≡ old.newsvendor.now → answer ≡ news_rule old.newsvendor.now old.level line → (answer ≡ None → new.level ≡ named_level old.level line)
-    → AnswersLine (KnowsNews new) item before line answer
+    → AnswersBehindHead (KnowsNews new) item before line answer
 news_answers (instance.News newsvendor) before line old new answer of same rule level = record {
   rule = rule ∙ ap (λ (n : NewsvendorItem). news_rule n old.level line) of.newsvendor_is ∙ ap (λ (q : ℕ). news_rule newsvendor q line) of.named;
   known = λ none. record {
@@ -41,37 +42,11 @@ news_answers (instance.News newsvendor) before line old new answer of same rule 
 news_answers _ before line old new answer of same rule level = absurd of
 
 -- ---- numbers
-le_true : (a b : ℤ) → int_le a b ≡ true → a ≤ℤ b
-le_true a b h = grind (arith, ints)
-
-same_number : (a b : ℤ) → is_number a b ≡ true → a ≡ b
-same_number a b h =
-    let tests = both (int_le a b) (int_le b a) h in
-    omega (arith, ints, le_true a b tests.0, le_true b a tests.1)
-
-le_test : (a b : ℤ) → a ≤ℤ b → int_le a b ≡ true
-le_test a b h = grind (arith, ints)
-
-both_tests : (a b : Bool) → a ≡ true → b ≡ true → (a && b) ≡ true
-both_tests a b e f = rw (e, f) refl
-
-number_at : (a b : ℤ) → a ≡ b → is_number a b ≡ true
-number_at a b e = both_tests (int_le a b) (int_le b a) (le_test a b (omega (arith, ints, e))) (le_test b a (omega (arith, ints, e)))
-
 size_is : (z : ℤ) → pos 0 ≤ℤ z → z ≡ pos (unsigned_abs z)
 size_is (pos k) h = refl
 size_is (negsuc k) h = absurd (omega (arith, ints))
 
 -- ---- a level that breaks no rule
-both_rules : (reaches first : Bool) → cond {A = Option ℕ} reaches (cond {A = Option ℕ} first None (Some 4)) (Some 3) ≡ None → (reaches ≡ true) × (first ≡ true)
-both_rules true true h = (refl, refl)
-both_rules true false h = cc
-both_rules false first h = cc
-
-when_true : (b : Bool) (rule : ℕ) → cond b None (Some rule) ≡ None → b ≡ true
-when_true true rule h = refl
-when_true false rule h = cc
-
 not_true : (a b : Bool) → a ≡ false → (a || not b) ≡ true → b ≡ false
 not_true true b e h = absurd (false≢true (sym e))
 not_true false true e h = absurd (false≢true h)
@@ -93,14 +68,15 @@ first_by item (suc below) h k lt =
 
 least_by_rules : (item : NewsvendorItem) (level : ℕ) → level_rule item (pos level) ≡ None → LeastLevel item level
 least_by_rules item level h =
-    let tests = both_rules (reaches_ratio item (pos level)) (is_first_level item (pos level)) h in
-    least_by_ratio item.holding item.stockout item.law level (leb-true (item.stockout * sum item.law) ((item.holding + item.stockout) * upto_of item.law level) tests.0) (first_by item level tests.1)
+    let reached = rule_passed (reaches_ratio item (pos level)) (cond (is_first_level item (pos level)) None (Some 4)) 3 h in
+    let first = rule_passed (is_first_level item (pos level)) None 4 reached.1 in
+    least_by_ratio item.holding item.stockout item.law level (leb-true (item.stockout * sum item.law) ((item.holding + item.stockout) * upto_of item.law level) reached.0) (first_by item level first.0)
 
 cost_by_rule : (item : NewsvendorItem) (level cost : ℕ) → cost_rule item level (pos cost) ≡ None → pos cost ≡ cost_of item level
-cost_by_rule item level cost h = sym (same_number (cost_of item level) (pos cost) (when_true (is_number (cost_of item level) (pos cost)) 5 h))
+cost_by_rule item level cost h = sym (same_number (cost_of item level) (pos cost) (rule_passed (is_number (cost_of item level) (pos cost)) None 5 h).0)
 
 -- a certificate whose lines break no rule
-pub news_certifies : (item : NewsvendorItem) (c : Cert) → Keeps (news_rules item) 0 (cert_lines c) → CertifiesLevel item c
+pub news_certifies : (item : NewsvendorItem) (c : Cert) → BreaksNoRule (instance.News item) c → CertifiesLevel item c
 news_certifies item (cert.News c) kept = record { level = least_by_rules item c.q kept.1.0; cost = cost_by_rule item c.q c.cost kept.1.1.0 }
 news_certifies item _ kept = let foreign_head = kept.0 in cc
 
@@ -141,10 +117,10 @@ cost_passes item level cost h = rw (number_at (cost_of item level) cost h) refl
 solved_size : (item : NewsvendorItem) → cost_of item (solved_news item).q ≡ pos (solved_news item).cost
 solved_size item = size_is (cost_of item (solved_news item).q) (cost_not_negative item (solved_news item).q)
 
-pub solved_news_keeps : (item : NewsvendorItem) → Keeps (news_rules item) 0 (cert_lines (cert.News (solved_news item)))
+pub solved_news_keeps : (item : NewsvendorItem) → BreaksNoRule (instance.News item) (cert.News (solved_news item))
 solved_news_keeps item =
     let level = first_least_upto (cost_of item) (length item.law) in
-    (refl, (level_passes item level (solved_is_least item), (cost_passes item level (pos (unsigned_abs (cost_of item level))) (solved_size item), (refl, tt))))
+    (own_head (heading_of (instance.News item)), (level_passes item level (solved_is_least item), (cost_passes item level (pos (unsigned_abs (cost_of item level))) (solved_size item), (refl, tt))))
 
 pub solved_news_text : (item : NewsvendorItem) → IsNewsvendor item → HasText (cert.News (solved_news item))
 solved_news_text item is =

@@ -2,9 +2,9 @@
 use Rattle.std.proofs.Common.{◌≡◌, ◌≢◌, ℕ, suc, ◌-◌, ◌==◌, Bool, true, false, cond, length, ℤ, pos, refl, sym, ap, ◌∙◌}
 use Rattle.std.specs.Prelude.{Option, None, Some, nat_lt, not, ◌&&◌, ◌||◌}
 use Rattle.decision_model.specs.declared.serial.Serial.{Serial}
-use Rattle.finite_lemmas.specs.NumberTests.{number_at, number_other}
 use Rattle.serial_recursion.specs.Periods.{is_ready, is_left, next_at}
 use Rattle.value_cert.specs.Numbers.{is_number}
+use Rattle.value_cert.specs.RuleTests.{number_at, number_other}
 use Rattle.value_cert.specs.SerialRules.{FirstRows, is_period_whole, is_row_whole, is_next_period, is_next_echelon, is_next_position, is_on_grid, turns_at_level, last_period, level_rule, value_rule, echelon_rule, position_rule}
 use Rattle.value_cert.specs.SerialValues.{order_cost, echelon_value}
 

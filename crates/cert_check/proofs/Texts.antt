@@ -1,5 +1,5 @@
 -- What is accepted names a policy than which none costs less, and what the solver writes is accepted.
-use Rattle.std.proofs.Common.{◌≡◌, ℕ, List, [], ◌++◌, Option, Some, None, true, refl, sym, ap, ◌∙◌, append-nil}
+use Rattle.std.proofs.Common.{◌≡◌, ℕ, List, [], Option, Some, None, true, refl, sym, ap, ◌∙◌, append-nil}
 use Rattle.std.specs.Option.{option_or}
 use Rattle.decision_model.specs.Valid.{IsValid}
 use Rattle.decision_model.specs.declared.instance.Instance.{Instance}
@@ -14,7 +14,7 @@ use Rattle.value_cert.specs.GrammarFacts.{ended_at}
 use Rattle.value_cert.specs.Texts.{IsWhole, lines_text, cert_lines}
 use Rattle.value_cert.specs.declared.line.CertLine.{CertLine}
 use Rattle.value_cert.specs.declared.place.Place.TheVariants as place
-use Rattle.cert_check.specs.Meaning.{AreCertified, IsCertified, IsOwnText}
+use Rattle.cert_check.specs.Meaning.{AreCertified, IsCertified, IsWhollyValid, IsOwnText}
 use Rattle.cert_check.proofs.Kept.{kept_by, passing_by}
 use Rattle.cert_check.proofs.ProvenKinds.{certifies_by, solved_is_kept}
 
@@ -51,9 +51,9 @@ whole_text item lines whole none =
     ∙ ended_breach item lines ended
 
 -- the text that the solver writes has no breach
-pub own_passes : (item : Instance) (text : List ℕ) → IsOwnText item text → text_breach item text ≡ None
-own_passes item text own =
-    let kept = solved_is_kept item own.cert own.valid own.typed own.solved in
+pub own_passes : (item : Instance) (text : List ℕ) → IsWhollyValid item → IsOwnText item text → text_breach item text ≡ None
+own_passes item text valid own =
+    let kept = solved_is_kept item own.cert valid own.solved in
     let lines = cert_lines own.cert in
     let whole : IsWhole lines = (own.cert, kept.has, refl) in
     ap (text_breach item) own.text_is ∙ whole_text item lines whole (passing_by item lines whole kept.keeps)

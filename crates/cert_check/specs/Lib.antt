@@ -1,5 +1,6 @@
 pub mod Tables
 pub mod Answers
+pub mod KnownLines
 pub mod NewsChecks
 pub mod LotCells
 pub mod LotsChecks

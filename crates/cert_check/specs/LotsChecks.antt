@@ -2,13 +2,12 @@
 use Rattle.std.specs.Prelude.{◌≡◌, ℕ, ◌-◌, ◌<◌, ◌≤◌, List, length, slice_index, sum}
 use Rattle.decision_model.specs.declared.instance.Instance.{Instance}
 use Rattle.decision_model.specs.declared.instance.Instance.TheVariants.{Lots}
-use Rattle.decision_model.specs.declared.lots.LotSize.{LotSize}
 use Rattle.lot_lemmas.specs.LotSums.{sum_from}
 use Rattle.value_cert.specs.LotPlans.{demand_upto, period_cost}
-use Rattle.value_cert.specs.LotsRules.{excess, FirstOrders, lots_rules}
-use Rattle.value_cert.specs.Rules.{known_of}
+use Rattle.value_cert.specs.LotsRules.{excess, FirstOrders, no_orders, named_orders, lots_rule}
 use Rattle.value_cert.specs.declared.line.CertLine.{CertLine}
 use Rattle.cert_check.specs.LotCells.{cell_at}
+use Rattle.cert_check.specs.KnownLines.{KnowsLines}
 use Rattle.cert_check.specs.declared.lots.LotsCheck.{LotsCheck}
 
 -- the check knows what these orders and duals of the first periods come to
@@ -25,10 +24,6 @@ pub record KnowsPlan (check : LotsCheck) (first : FirstOrders) : Type 0 where
   pub covered : (t : ℕ) → t < length first.orders → cell_at check.excesses.now t ≤ slice_index check.lots.now.setup t
 
 -- the check is of these lots, and knows the orders and the duals of the lines
-pub record IsLotsCheckOf (lots : LotSize) (check : LotsCheck) (lines : List CertLine) : Type 0 where
-  pub lots_are : check.lots.now ≡ lots
-  pub plan : KnowsPlan check (known_of (lots_rules lots) lines)
-
 abbrev pub KnowsLots : LotsCheck → Instance → List CertLine → Type 0
-KnowsLots check (Lots lots) lines = IsLotsCheckOf lots check lines
+KnowsLots check (Lots lots) lines = KnowsLines (λ lots. no_orders) (λ lots. named_orders) lots_rule lots check.lots.now (KnowsPlan check) lines
 KnowsLots check _ lines = ⊥

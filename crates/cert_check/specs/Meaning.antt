@@ -28,10 +28,13 @@ abbrev pub IsTyped : Instance → Type 0
 IsTyped (News item) = IsNewsvendor item
 IsTyped _ = Unit {0}
 
+-- each rule of an instance, and what its type ensures
+pub record IsWhollyValid (item : Instance) : Type 0 where
+  pub rules : IsValid item
+  pub typed : IsTyped item
+
 -- the text is that of the certificate which the solver makes of the instance
 pub record IsOwnText (item : Instance) (text : List ℕ) : Type 0 where
-  pub valid : IsValid item
-  pub typed : IsTyped item
   pub cert : Cert
   pub solved : solved_cert item ≡ Some cert
   pub text_is : text ≡ cert_text cert

@@ -3,37 +3,16 @@ ghost use Rattle.std.specs.Prelude.{◌≡◌, length, None, Some, if◌then◌e
 ghost use Rattle.decision_model.specs.Average.{IsValidAverage};
 ghost use Rattle.average_recursion.specs.Recursions.{average_of, KnowsPoints};
 ghost use Rattle.average_recursion.specs.Tables.{cells_needed, sums_needed};
-ghost use Rattle.value_cert.specs.AverageRules.{is_average_head};
 
 use crate::kind_rules::KindRules;
 use average_recursion::Points;
-use decision_model::{Average, Kind};
+use decision_model::Average;
 use value_cert::CertLine;
 
 /// A check of an average cost's certificate. It keeps the entries that the lines name, in two tables over the grid.
 #[derive(Drop)]
 pub(crate) struct AverageCheck<'a> {
     points: Points<'a>,
-}
-
-// Whether a head has the average kind, and no discount.
-fn is_own_head(kind: Kind, num: i128, den: i128) -> bool
-    ensures { result ≡ is_average_head kind num den }
-{
-    match kind {
-        Kind::Average => num == 1 && den == 1,
-        _ => false,
-    }
-}
-
-fn broken_by_head(kind: Kind, num: i128, den: i128) -> Option<u32>
-    ensures { result ≡ (if is_average_head kind num den then None else Some 2) }
-{
-    if is_own_head(kind, num, den) {
-        None
-    } else {
-        Some(2)
-    }
 }
 
 impl<'a> AverageCheck<'a> {
@@ -64,7 +43,6 @@ impl<'a> AverageCheck<'a> {
             KnowsPoints self.new.points (named_points first line.now) }
     {
         match *line {
-            CertLine::Head(kind, num, den) => broken_by_head(kind, num, den),
             CertLine::Gain(num, den) => self.take_gain(num, den),
             CertLine::Pair(low, high) => self.take_pair(low, high),
             CertLine::Point(at, lower, upper) => self.points.take_point(at, lower, upper),

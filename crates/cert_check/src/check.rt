@@ -10,7 +10,6 @@ ghost use Rattle.cert_check.specs.Tables.{cell_count, sum_count};
 ghost use Rattle.cert_check.specs.Checks.{IsPassing, IsCheckOf};
 
 use crate::kind_check::KindCheck;
-use crate::kind_rules::KindRules;
 use decision_model::Instance;
 use line_check::Verdict;
 use value_cert::{CertLine, Place};

@@ -4,11 +4,11 @@ ghost use Rattle.decision_model.specs.Finite.{IsValidFinite};
 ghost use Rattle.decision_model.specs.FiniteProblem.{top};
 ghost use Rattle.finite_recursion.specs.Recursions.{finite_of, KnowsRows, next_position};
 ghost use Rattle.finite_recursion.specs.Tables.{cells_needed, sums_needed};
-ghost use Rattle.value_cert.specs.FiniteRules.{is_finite_head, is_allowed};
+ghost use Rattle.value_cert.specs.FiniteRules.{is_allowed};
 ghost use Rattle.value_cert.specs.Grammar.{has_numbers};
 
 use crate::kind_rules::KindRules;
-use decision_model::{Finite, Kind};
+use decision_model::Finite;
 use finite_recursion::Recursion;
 use value_cert::CertLine;
 
@@ -17,28 +17,6 @@ use value_cert::CertLine;
 #[derive(Drop)]
 pub(crate) struct FiniteCheck<'a> {
     recursion: Recursion<'a>,
-}
-
-// Whether a head has the finite kind and the instance's discount.
-fn is_own_head(finite: &Finite, kind: Kind, num: i128, den: i128) -> bool
-    ensures { result ≡ is_finite_head finite.now kind num den }
-{
-    match kind {
-        Kind::Finite => {
-            num == i128::from(finite.discount_num) && den == i128::from(finite.discount_den)
-        }
-        _ => false,
-    }
-}
-
-fn broken_by_head(finite: &Finite, kind: Kind, num: i128, den: i128) -> Option<u32>
-    ensures { result ≡ (if is_finite_head finite.now kind num den then None else Some 2) }
-{
-    if is_own_head(finite, kind, num, den) {
-        None
-    } else {
-        Some(2)
-    }
 }
 
 // The greatest position that an order may lead to.
@@ -91,9 +69,6 @@ impl<'a> FiniteCheck<'a> {
             KnowsRows self.new.recursion (named_values (finite_of self.old.recursion) first line.now) }
     {
         match *line {
-            CertLine::Head(kind, num, den) => {
-                broken_by_head(self.recursion.finite(), kind, num, den)
-            }
             CertLine::Period(period) => self.take_period(period),
             CertLine::Value(at, to, value) => self.take_value(at, to, value),
             CertLine::End => self.broken_by_end(),

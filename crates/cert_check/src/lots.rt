@@ -6,11 +6,10 @@ ghost use Rattle.value_cert.specs.Grammar.{has_numbers};
 ghost use Rattle.value_cert.specs.LotPlans.{holding_between, serving_cost};
 ghost use Rattle.value_cert.specs.Numbers.{is_natural, is_number};
 ghost use Rattle.value_cert.specs.declared.line.CertLine.{CertLine};
-ghost use Rattle.value_cert.specs.LotsRules.{is_lots_head};
 ghost use Rattle.cert_check.specs.LotCells.{cell_at, raised_cell};
 
 use crate::kind_rules::KindRules;
-use decision_model::{Kind, LotSize};
+use decision_model::LotSize;
 use value_cert::CertLine;
 
 // What the orders and the duals so far come to.
@@ -185,26 +184,6 @@ impl Totals {
     }
 }
 
-// Whether a head has the lots' kind, and no discount.
-fn is_own_head(kind: Kind, num: i128, den: i128) -> bool
-    ensures { result ≡ is_lots_head kind num den }
-{
-    match kind {
-        Kind::Lots => num == 1 && den == 1,
-        _ => false,
-    }
-}
-
-fn broken_by_head(kind: Kind, num: i128, den: i128) -> Option<u32>
-    ensures { result ≡ (if is_lots_head kind num den then None else Some 2) }
-{
-    if is_own_head(kind, num, den) {
-        None
-    } else {
-        Some(2)
-    }
-}
-
 impl<'a> LotsCheck<'a> {
     ghost use Rattle.value_cert.specs.LotsRules.{FirstOrders, no_orders, named_orders, next_order_rule, lots_rule};
     ghost use Rattle.cert_check.specs.LotsChecks.{KnowsPlan};
@@ -239,7 +218,6 @@ impl<'a> LotsCheck<'a> {
             KnowsPlan self.new (named_orders first line.now) }
     {
         match *line {
-            CertLine::Head(kind, num, den) => broken_by_head(kind, num, den),
             CertLine::Order(order, dual) => self.take_order(
                 order.unsigned_abs(),
                 dual.unsigned_abs(),

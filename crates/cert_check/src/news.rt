@@ -1,11 +1,11 @@
 // The rules of the newsvendor.
 ghost use Rattle.std.specs.Prelude.{◌≡◌, ◌≤◌, pos, ◌≤ℤ◌, unsigned_abs, length, true, Some, None, if◌then◌else◌};
+ghost use Rattle.newsvendor.specs.Item.{IsNewsvendor};
 ghost use Rattle.value_cert.specs.Grammar.{has_numbers};
-ghost use Rattle.value_cert.specs.NewsRules.{weights_upto, reaches_ratio, is_first_level, level_rule, cost_rule, is_news_head};
+ghost use Rattle.value_cert.specs.NewsRules.{weights_upto, reaches_ratio, is_first_level, level_rule, cost_rule};
 ghost use Rattle.value_cert.specs.Numbers.{is_natural};
 
 use crate::kind_rules::KindRules;
-use decision_model::Kind;
 use newsvendor::{Newsvendor, weighted_cost};
 use value_cert::CertLine;
 
@@ -75,30 +75,16 @@ fn broken_by_cost(newsvendor: &Newsvendor, level: u32, cost: i128) -> Option<u32
     }
 }
 
-// Whether a head has the newsvendor's kind, and no discount.
-fn is_own_head(kind: Kind, num: i128, den: i128) -> bool
-    ensures { result ≡ is_news_head kind num den }
-{
-    kind == Kind::News && num == 1 && den == 1
-}
-
-fn broken_by_head(kind: Kind, num: i128, den: i128) -> Option<u32>
-    ensures { result ≡ (if is_news_head kind num den then None else Some 2) }
-{
-    if is_own_head(kind, num, den) {
-        None
-    } else {
-        Some(2)
-    }
-}
-
 impl<'a> NewsCheck<'a> {
     ghost use Rattle.value_cert.specs.NewsRules.{named_level, news_rule};
 
     pub(crate) fn new(newsvendor: &'a Newsvendor) -> NewsCheck<'a>
         ensures newsvendor { result.newsvendor.now ≡ newsvendor.now }
         ensures level { result.level ≡ 0 }
+        // What its type says of it.
+        ensures typed { IsNewsvendor newsvendor.now }
     {
+        let _holding = newsvendor.holding;
         NewsCheck {
             newsvendor,
             level: 0,
@@ -126,7 +112,6 @@ impl<'a> NewsCheck<'a> {
         ensures level { result ≡ None → self.new.level ≡ named_level self.old.level line.now }
     {
         match *line {
-            CertLine::Head(kind, num, den) => broken_by_head(kind, num, den),
             CertLine::Level(level) => self.take_level(level),
             CertLine::Cost(cost) => broken_by_cost(self.newsvendor, self.level, cost),
             _ => None,

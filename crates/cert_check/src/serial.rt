@@ -3,10 +3,9 @@ ghost use Rattle.std.specs.Prelude.{◌≡◌, ◌-◌, length, true, None, Some
 ghost use Rattle.decision_model.specs.Serial.{IsValidSerial};
 ghost use Rattle.serial_recursion.specs.Recursions.{serial_of, periods_of, echelons_of, cells_of, KnowsRows};
 ghost use Rattle.serial_recursion.specs.Tables.{cells_needed};
-ghost use Rattle.value_cert.specs.SerialRules.{is_serial_head};
 
 use crate::kind_rules::KindRules;
-use decision_model::{Kind, Serial};
+use decision_model::Serial;
 use serial_recursion::Recursion;
 use value_cert::CertLine;
 
@@ -14,28 +13,6 @@ use value_cert::CertLine;
 #[derive(Drop)]
 pub(crate) struct SerialCheck<'a> {
     recursion: Recursion<'a>,
-}
-
-// Whether a head has the serial kind and the instance's discount.
-fn is_own_head(serial: &Serial, kind: Kind, num: i128, den: i128) -> bool
-    ensures { result ≡ is_serial_head serial.now kind num den }
-{
-    match kind {
-        Kind::Serial => {
-            num == i128::from(serial.discount_num) && den == i128::from(serial.discount_den)
-        }
-        _ => false,
-    }
-}
-
-fn broken_by_head(serial: &Serial, kind: Kind, num: i128, den: i128) -> Option<u32>
-    ensures { result ≡ (if is_serial_head serial.now kind num den then None else Some 2) }
-{
-    if is_own_head(serial, kind, num, den) {
-        None
-    } else {
-        Some(2)
-    }
 }
 
 impl<'a> SerialCheck<'a> {
@@ -62,9 +39,6 @@ impl<'a> SerialCheck<'a> {
             KnowsRows self.new.recursion (named_rows first line.now) }
     {
         match *line {
-            CertLine::Head(kind, num, den) => {
-                broken_by_head(self.recursion.serial(), kind, num, den)
-            }
             CertLine::Period(period) => self.take_period(period),
             CertLine::Echelon(echelon, level) => self.take_echelon(echelon, level),
             CertLine::Part(at, value) => self.take_part(at, value),

@@ -14,7 +14,6 @@ ghost use Rattle.cert_check.specs.Tables.{cell_count, sum_count};
 ghost use Rattle.cert_check.specs.TextChecks.{Tells, last_verdict, IsTextCheckOf};
 
 use crate::kind_check::KindCheck;
-use crate::kind_rules::KindRules;
 use decision_model::Instance;
 use line_check::Verdict;
 use line_text::LineReader;
@@ -41,7 +40,7 @@ impl<'a> TextCheck<'a> {
         ensures { IsTextCheckOf instance.now result [] }
     {
         TextCheck {
-            reader: LineReader::new(),
+            reader: LineReader::new(CertGrammar),
             kind: KindCheck::new(instance, cells, sums),
             verdict: Verdict::Going,
         }
@@ -52,7 +51,7 @@ impl<'a> TextCheck<'a> {
         requires { IfSome line (MayStand cert_grammar) }
         ensures reader { self.new.reader ≡ self.old.reader }
         ensures feeds { (instance : Instance) → FeedsLine (cert_rules instance) (KnowsKind self.old.kind instance) (KnowsKind self.new.kind instance)
-            number (is_ended self.old.reader.place) line result }
+            number (is_ended self.old.reader.lines.place) line result }
     {
         let Some(line) = line else {
             return Verdict::Going;

@@ -1,13 +1,4 @@
-pub mod Greatest
 pub mod Searched
 pub mod Narrow
+pub mod WideNarrow
 pub mod RateSums
-pub mod LeastPairs
-pub mod BlockLeasts
-pub mod WindowSteps
-pub mod WalkSteps
-pub mod WalkBounds
-pub mod WalkCasts
-pub mod Failing
-pub mod PathSteps
-pub mod LoadSteps

@@ -2,13 +2,13 @@
 ghost use Rattle.std.specs.Prelude.{◌≡◌, ◌↔◌, ◌^◌, ◌≤◌, IsTrue};
 ghost use Rattle.decision_model.specs.Average.{IsReadableAverage, HasDemand, has_demand, IsUnitDemand, is_unit_demand, average_cost_bound, average_width, IsRegularAverage};
 
-use crate::grid::{above_zero, positions_from};
 use crate::kinds::Kind;
 use crate::limits::{MOST_BITS, MOST_POSITIONS};
 use crate::rules::KindRules;
 use crate::width::{cost_of, most_lacking};
 use demand_law::Law;
 use fraction128::{checked_pow, within};
+use model_terms::{above_zero, positions_from};
 
 /// Uncertain demand of one law in every period, at least average cost.
 #[derive(Drop)]
@@ -61,8 +61,9 @@ pub fn is_unit_demand(average: &Average) -> bool
     average.law.greatest() <= 1
 }
 
+/// A whole number above each cost of a period, its setup cost aside.
 #[tactic(auto, unfolding(crate::specs::Average::average_cost_bound))]
-fn average_cost_bound(average: &Average) -> u128
+pub fn average_cost_bound(average: &Average) -> u128
     requires { IsReadableAverage average.now }
     ensures bound { result ≡ average_cost_bound average.now }
     ensures some { 1 ≤ result }

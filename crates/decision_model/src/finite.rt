@@ -2,13 +2,12 @@
 ghost use Rattle.std.specs.Prelude.{◌≡◌, ◌↔◌, ◌+◌, ◌^◌, ◌≤◌, IsTrue};
 ghost use Rattle.decision_model.specs.Finite.{IsReadableFinite, FiniteGridFits, finite_grid_fits, finite_cost_bound, finite_width, IsRegularFinite};
 
-use crate::grid::{above_zero, low_after, positions_from};
-use crate::items::Laws;
 use crate::kinds::Kind;
 use crate::limits::{MOST_BITS, MOST_CELLS, MOST_FINITE_POSITIONS};
 use crate::rules::KindRules;
 use crate::width::{cost_of, most_lacking};
 use fraction128::{checked_pow, within};
+use model_terms::{Laws, above_zero, low_after, positions_from};
 
 /// Uncertain demand over a finite horizon, with a setup cost and a lead time, after Scarf (1960).
 #[derive(Drop)]

@@ -7,9 +7,9 @@ use crate::average::Average;
 use crate::finite::Finite;
 use crate::kinds::Kind;
 use crate::lots::LotSize;
-use crate::network::Network;
 use crate::rules::KindRules;
 use crate::serial::Serial;
+use network_model::Network;
 use newsvendor::Newsvendor;
 
 /// An instance of one of the kinds.

@@ -1,34 +1,19 @@
 //! The ranges of an instance's numbers. What one kind alone limits stands here too, under its kind.
 
-/// The greatest cost rate per unit.
-pub const MOST_RATE: u64 = 1_000_000;
+pub use model_terms::limits::{
+    LEAST_POSITION, MOST_CAP, MOST_DEMAND, MOST_DISCOUNT, MOST_NAME, MOST_PERIODS, MOST_POSITION,
+    MOST_RATE, MOST_TOTAL,
+};
+pub use network_model::limits::{
+    MOST_HOUSE_CAP, MOST_HOUSE_INDEX, MOST_INITIAL, MOST_LOAD, MOST_LOT, MOST_NETWORK_LEAD,
+    MOST_NETWORK_PERIODS, MOST_NODES, MOST_PAUSES, MOST_SOURCES, MOST_TRACE,
+};
 
 /// The greatest setup cost over a horizon of uncertain demand.
 pub const MOST_SETUP: u64 = 1_000_000_000;
 
-/// The most periods of a horizon of uncertain demand.
-pub const MOST_PERIODS: u32 = 104;
-
 /// The longest lead time, in periods.
 pub const MOST_LEAD: u32 = 8;
-
-/// The greatest numerator and denominator of a discount.
-pub const MOST_DISCOUNT: u32 = 1_000;
-
-/// The greatest demand of a law.
-pub const MOST_DEMAND: usize = 10_000;
-
-/// The greatest sum of a law's weights.
-pub const MOST_TOTAL: u32 = 1_000_000_000;
-
-/// The least position.
-pub const LEAST_POSITION: i64 = -1_000_000;
-
-/// The greatest position.
-pub const MOST_POSITION: i64 = 1_000_000;
-
-/// The greatest cap.
-pub const MOST_CAP: u64 = 1_000_000;
 
 /// The most positions of the grid of an average or a serial instance.
 pub const MOST_POSITIONS: u64 = 2_000;
@@ -58,45 +43,15 @@ pub const MOST_ORDER: u64 = 1_000_000;
 /// The most positions of the grid of a finite instance.
 pub const MOST_FINITE_POSITIONS: u64 = 20_000;
 
+// ---- the average kind on a wide range
+
+/// The most positions of the grid of an average instance whose cost is bounded.
+pub const MOST_WIDE_POSITIONS: u64 = 20_000;
+
+/// In how many parts of one bounds of the average cost count.
+pub const PARTS: u128 = 1_000_000;
+
 // ---- the serial kind
 
 /// The most echelons of a serial system.
 pub const MOST_ECHELONS: usize = 8;
-
-// ---- networks
-
-/// The most periods of a network.
-pub const MOST_NETWORK_PERIODS: u32 = 10_000;
-
-/// The most nodes of a network.
-pub const MOST_NODES: usize = 64;
-
-/// The longest name of a node.
-pub const MOST_NAME: usize = 32;
-
-/// The greatest stock of a node before the first period.
-pub const MOST_INITIAL: u64 = 1_000_000;
-
-/// The greatest lot.
-pub const MOST_LOT: u64 = 1_000_000;
-
-/// The greatest number of a rule of the caller's own.
-pub const MOST_HOUSE_INDEX: u32 = 63;
-
-/// The greatest cap on the orders of a rule of the caller's own.
-pub const MOST_HOUSE_CAP: u64 = 1_000_000;
-
-/// The most sources of a node.
-pub const MOST_SOURCES: usize = 8;
-
-/// The most periods that an order or a unit is under way.
-pub const MOST_NETWORK_LEAD: u32 = 64;
-
-/// The greatest demand of a period that is listed.
-pub const MOST_TRACE: u32 = 10_000;
-
-/// The most pauses of a network.
-pub const MOST_PAUSES: usize = 1_000;
-
-/// The most that a node may hold, see and order in all periods.
-pub const MOST_LOAD: u64 = 1_000_000_000_000;

@@ -2,9 +2,9 @@
 ghost use Rattle.std.specs.Prelude.{◌≡◌, MatchOption};
 ghost use Rattle.decision_model.specs.Lots.{IsReadableLots, speculative_period_of, IsFirstSpeculative, HasNoSpeculation};
 
-use crate::items::Amounts;
 use crate::kinds::Kind;
 use crate::rules::KindRules;
+use model_terms::Amounts;
 
 /// Known demand that orders have to cover, after Wagner and Whitin (1958). All lists have one entry a period.
 #[derive(Drop)]

@@ -2,13 +2,12 @@
 ghost use Rattle.std.specs.Prelude.{◌≡◌, ◌↔◌, ◌^◌, ◌<◌, ◌≤◌, sum, IsTrue};
 ghost use Rattle.decision_model.specs.Serial.{IsReadableSerial, SerialGridFits, serial_grid_fits, serial_cost_bound, serial_width, IsRegularSerial};
 
-use crate::grid::{low_after, positions_from};
-use crate::items::{Amounts, Laws, Positions};
 use crate::kinds::Kind;
 use crate::limits::{MOST_BITS, MOST_CELLS, MOST_POSITIONS};
 use crate::rules::KindRules;
 use crate::width::cost_of;
 use fraction128::{checked_pow, within};
+use model_terms::{Amounts, Laws, Positions, low_after, positions_from};
 
 /// A serial system after Clark and Scarf (1960): echelon 1 faces demand, the last one orders from outside.
 #[derive(Drop)]

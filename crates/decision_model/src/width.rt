@@ -2,7 +2,7 @@
 ghost use Rattle.std.specs.Prelude.{◌≡◌, ◌+◌, ◌*◌, ◌≤◌, pos, ◌-ℤ◌, unsigned_abs};
 ghost use Rattle.decision_model.specs.Positions.{above_zero};
 
-use crate::grid::above_zero;
+use model_terms::above_zero;
 
 // What some units cost at a rate.
 pub(crate) fn cost_of(rate: u64, units: u64) -> u128

@@ -2,10 +2,10 @@
 use Rattle.std.proofs.Common.{◌≡◌, ℕ, ◌+◌, ◌<◌, List, length, get_or, take, Bool, true, false, ◌&&◌, ◌||◌, Option, Some, None, refl, sym, ◌∙◌, ap, arith}
 use Rattle.std.specs.List.{list_any, list_all}
 use Rattle.std.proofs.lemmas.List.Folds.{list_any_more, list_all_more}
-use Rattle.decision_model.specs.declared.network.Span.{Span}
-use Rattle.decision_model.specs.declared.network.Pause.{Pause}
-use Rattle.decision_model.specs.Pauses.{holds, are_apart, no_span, overlapping_span}
-use Rattle.decision_model.specs.NetworkFacts.{apart_at}
+use Rattle.network_model.specs.declared.network.Span.{Span}
+use Rattle.network_model.specs.declared.network.Pause.{Pause}
+use Rattle.network_model.specs.Pauses.{holds, are_apart, no_span, overlapping_span}
+use Rattle.network_model.specs.NetworkFacts.{apart_at}
 use Rattle.disruption.specs.Tables.{IsTable, IsTableOf, HasOneMore}
 use Rattle.disruption.proofs.TableFacts.{both, by_absurd, holds_means}
 

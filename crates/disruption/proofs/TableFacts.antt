@@ -5,10 +5,10 @@ use Rattle.std.proofs.lemmas.Bool.{eqb-true, leb-true, le-leb, eq-eqb, cases_lt,
 use Rattle.std.proofs.Math.Nat.{le-max_left, le-max_right, max-le}
 use Rattle.std.proofs.lemmas.List.Folds.{list_any_none, list_any_at}
 use Rattle.std.proofs.lemmas.List.Elements.{All-from_get_or}
-use Rattle.decision_model.specs.declared.network.Span.{Span}
-use Rattle.decision_model.specs.declared.network.Pause.{Pause}
-use Rattle.decision_model.specs.declared.network.Pause.TheVariants.{Orders, Shipments, Receipts}
-use Rattle.decision_model.specs.Pauses.{same_pause, holds, is_paused, are_apart, no_span}
+use Rattle.network_model.specs.declared.network.Span.{Span}
+use Rattle.network_model.specs.declared.network.Pause.{Pause}
+use Rattle.network_model.specs.declared.network.Pause.TheVariants.{Orders, Shipments, Receipts}
+use Rattle.network_model.specs.Pauses.{same_pause, holds, is_paused, are_apart, no_span}
 use Rattle.disruption.specs.Tables.{rank, group, IsBefore, IsTable, Begins, Follows, HasOneMore}
 
 -- ---- what it means that a span holds a period

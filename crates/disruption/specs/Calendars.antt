@@ -1,8 +1,8 @@
 -- What a calendar says, and when spans make none.
 use Rattle.std.specs.Prelude.{◌≡◌, ℕ, List, Some, None}
-use Rattle.decision_model.specs.declared.network.Span.{Span}
-use Rattle.decision_model.specs.declared.network.Pause.{Pause}
-use Rattle.decision_model.specs.Pauses.{is_paused, overlapping_span}
+use Rattle.network_model.specs.declared.network.Span.{Span}
+use Rattle.network_model.specs.declared.network.Pause.{Pause}
+use Rattle.network_model.specs.Pauses.{is_paused, overlapping_span}
 use Rattle.disruption.specs.declared.calendar.CalendarErr.{CalendarErr}
 use Rattle.disruption.specs.declared.calendar.CalendarErr.TheVariants.{Overlap, Memory}
 

@@ -1,9 +1,9 @@
 -- Tables of spans in order: by node, kind and period.
 use Rattle.std.specs.Prelude.{◌≡◌, ℕ, ◌+◌, ◌*◌, ◌<◌, ◌≤◌, List, [], ◌∷◌, All, ⊤, Bool, true, ◌&&◌, ◌||◌}
 use Rattle.std.specs.List.{list_any, list_all}
-use Rattle.decision_model.specs.declared.network.Span.{Span}
-use Rattle.decision_model.specs.declared.network.Pause.{Pause}
-use Rattle.decision_model.specs.declared.network.Pause.TheVariants.{Orders, Shipments, Receipts}
+use Rattle.network_model.specs.declared.network.Span.{Span}
+use Rattle.network_model.specs.declared.network.Pause.{Pause}
+use Rattle.network_model.specs.declared.network.Pause.TheVariants.{Orders, Shipments, Receipts}
 use Rattle.disruption.specs.Calendars.{PausesAlike}
 
 -- the order of kinds

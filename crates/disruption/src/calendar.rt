@@ -1,12 +1,12 @@
 // The calendar of a network.
 ghost use Rattle.std.specs.Prelude.{◌≡◌, ◌^◌, ◌<◌, length, None, IfOk, IfErr, OnOk};
-ghost use Rattle.decision_model.specs.declared.network.Pause.TheVariants.{Orders, Shipments, Receipts};
-ghost use Rattle.decision_model.specs.Pauses.{is_paused, overlapping_span};
+ghost use Rattle.network_model.specs.declared.network.Pause.TheVariants.{Orders, Shipments, Receipts};
+ghost use Rattle.network_model.specs.Pauses.{is_paused, overlapping_span};
 ghost use Rattle.disruption.specs.Calendars.{PausesAlike, IsRefusal};
 
 use crate::table::{is_held, put};
-use decision_model::{Pause, Span, overlapping_span};
 use fraction128::Memory;
+use network_model::{Pause, Span, overlapping_span};
 use std::alloc::Global;
 use std::marker::Model;
 use thiserror::Error;
@@ -41,7 +41,7 @@ pub struct Calendar {
 
 impl Model for Calendar {
     ghost use Rattle.std.specs.Prelude.{List};
-    ghost use Rattle.decision_model.specs.declared.network.Span.{Span};
+    ghost use Rattle.network_model.specs.declared.network.Span.{Span};
     ghost use Rattle.disruption.specs.Tables.{IsTable};
 
     ghost Value = { List Span };

@@ -1,11 +1,11 @@
 // A table of spans in order: by node, kind and period. Each holds a period, and no two of one node and kind share one.
 ghost use Rattle.std.specs.Prelude.{◌≡◌, ℕ, ◌<◌, ◌≤◌, length, slice_index_or, true, OnOk, MatchBool};
 ghost use Rattle.std.specs.List.{list_all};
-ghost use Rattle.decision_model.specs.Pauses.{holds, is_paused, are_apart, no_span};
+ghost use Rattle.network_model.specs.Pauses.{holds, is_paused, are_apart, no_span};
 ghost use Rattle.disruption.specs.Tables.{IsTable, Begins, Follows, HasOneMore, rank};
 
-use decision_model::{Pause, Span};
 use fraction128::Memory;
+use network_model::{Pause, Span};
 
 /// Whether a span of a table holds the period. Only the last of its node and kind that begins at or before the period
 /// can.

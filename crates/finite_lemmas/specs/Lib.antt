@@ -6,7 +6,6 @@ pub mod Orders
 pub mod LeastChoice
 pub mod StockConvex
 pub mod Forms
-pub mod NumberTests
 pub mod RowCells
 pub mod SolvedRows
 pub mod RowsKept

@@ -2,9 +2,9 @@
 use Rattle.std.proofs.Common.{◌≡◌, ◌≢◌, ℕ, zero, suc, ◌<◌, ℤ, List, [], ◌∷◌, length, slice_index_or, if◌then◌else◌, ◌∙◌, ap, arith}
 use Rattle.std.proofs.lemmas.Bool.{eq-eqb, ne_eqb}
 use Rattle.value_cert.specs.FiniteRules.{cells_of, cell_choice}
+use Rattle.value_cert.specs.RuleTests.{number_at, number_other}
 use Rattle.value_cert.specs.declared.finite.FiniteCell.{FiniteCell}
 use Rattle.value_cert.specs.declared.finite.FiniteRow.{FiniteRow}
-use Rattle.finite_lemmas.specs.NumberTests.{number_at, number_other}
 
 -- the cells of a period are those of the first row of it
 pub cells_of_row : (rows : List FiniteRow) (place period : ℕ) (d : FiniteRow) → place < length rows → (slice_index_or rows place d).period ≡ period

@@ -1,5 +1,5 @@
 -- What the rules on the lines of a finite horizon say of the rows that the lines tell, row by row and cell by cell.
-use Rattle.std.proofs.Common.{◌≡◌, ℕ, suc, ◌-◌, ◌<◌, Bool, true, false, cond, ◌&&◌, ◌||◌, not, eqb, List, [], ◌∷◌, ◌++◌, length, map, ℤ, pos, ◌-ℤ◌, refl, sym, ap, ◌∙◌, subst, arith, append_assoc, append-nil}
+use Rattle.std.proofs.Common.{◌≡◌, ℕ, suc, ◌-◌, ◌<◌, true, false, cond, ◌&&◌, ◌||◌, not, eqb, List, [], ◌∷◌, ◌++◌, length, map, ℤ, pos, ◌-ℤ◌, refl, sym, ap, ◌∙◌, subst, arith, append_assoc, append-nil}
 use Rattle.std.specs.Prelude.{Option, None, Some, nat_le, nat_lt}
 use Rattle.std.specs.List.{flat_map}
 use Rattle.std.proofs.lemmas.Bool.{and_parts, and_from, ltb-true, lt-ltb, leb-false, lt-leb, eqb-true, eq-eqb, not-true, not_from_false}
@@ -7,26 +7,18 @@ use Rattle.std.proofs.Math.Dec.{eqb-suc-zero}
 use Rattle.std.proofs.lemmas.Int.{ints}
 use Rattle.std.proofs.lemmas.List.{length-append}
 use Rattle.decision_model.specs.declared.finite.Finite.{Finite}
+use Rattle.decision_model.specs.declared.instance.Instance.TheVariants as instance
 use Rattle.value_cert.specs.Finite.{value_line, row_lines}
-use Rattle.value_cert.specs.FiniteRules.{FirstRows, is_row_whole, last_values, last_period, is_next_period, is_next_position, value_rule, position_rule, finite_rules}
+use Rattle.value_cert.specs.FiniteRules.{FirstRows, is_row_whole, last_values, last_period, is_next_period, is_next_position, value_rule, position_rule}
 use Rattle.value_cert.specs.FiniteValues.{row_width}
 use Rattle.value_cert.specs.Numbers.{is_number}
 use Rattle.value_cert.specs.Kept.{Keeps}
+use Rattle.value_cert.specs.RuleTests.{same_number, number_at, rule_passed, passing_rule}
+use Rattle.value_cert.specs.Standards.{rules_of}
 use Rattle.value_cert.specs.declared.finite.FiniteCell.{FiniteCell}
 use Rattle.value_cert.specs.declared.finite.FiniteRow.{FiniteRow}
 use Rattle.value_cert.specs.declared.line.CertLine.{CertLine}
 use Rattle.value_cert.specs.declared.line.CertLine.TheVariants.{End}
-use Rattle.finite_lemmas.specs.NumberTests.{same_number, number_at}
-
--- ---- tests
--- a rule that isn't broken, and what comes behind it
-rule_passed : (test : Bool) (rest : Option ℕ) (rule : ℕ) → cond test rest (Some rule) ≡ None → (test ≡ true) × (rest ≡ None)
-rule_passed true rest rule h = (refl, h)
-rule_passed false rest rule h = cc
-
--- a test that is passed breaks no rule, if none behind it does
-passing_rule : (test : Bool) (rest : Option ℕ) (rule : ℕ) → test ≡ true → rest ≡ None → cond test rest (Some rule) ≡ None
-passing_rule test rest rule e f = rw (e, f) refl
 
 -- ---- rows
 -- the values of cells
@@ -82,7 +74,7 @@ module _ (finite : Finite) where
   -- ---- from the lines to the rows
   record CellsKept (j : ℕ) (later : ℤ → ℤ) (values : List ℤ) (cells : List FiniteCell) (rest : List CertLine) : Type 0 where
     pass : CellsPass finite later j (finite.periods - j) (length values) cells
-    behind : Keeps (finite_rules finite) (known (suc j) later (values ++ values_of cells)) rest
+    behind : Keeps (rules_of (instance.Finite finite)) (known (suc j) later (values ++ values_of cells)) rest
 
   -- a cell line that breaks no rule
   cell_passes : (j : ℕ) (later : ℤ → ℤ) (values : List ℤ) (cell : FiniteCell) → position_rule finite (known (suc j) later values) cell.at cell.to cell.value ≡ None → CellPasses finite later j (finite.periods - j) (length values) cell
@@ -103,13 +95,13 @@ module _ (finite : Finite) where
       }
 
   -- the cell lines of a row that break no rule
-  cells_kept : (j : ℕ) (later : ℤ → ℤ) (values : List ℤ) (cells : List FiniteCell) (rest : List CertLine) → Keeps (finite_rules finite) (known (suc j) later values) (map value_line cells ++ rest) → CellsKept j later values cells rest
+  cells_kept : (j : ℕ) (later : ℤ → ℤ) (values : List ℤ) (cells : List FiniteCell) (rest : List CertLine) → Keeps (rules_of (instance.Finite finite)) (known (suc j) later values) (map value_line cells ++ rest) → CellsKept j later values cells rest
   cells_kept j later values [] rest kept =
-      let P : List ℤ → Type 0 = λ all. Keeps (finite_rules finite) (known (suc j) later all) rest in
+      let P : List ℤ → Type 0 = λ all. Keeps (rules_of (instance.Finite finite)) (known (suc j) later all) rest in
       record { pass = tt; behind = subst P (sym (append-nil values)) kept }
   cells_kept j later values (cell ∷ cells) rest kept =
       let more = cells_kept j later (values ++ cell.value ∷ []) cells rest kept.1 in
-      let P : List ℤ → Type 0 = λ all. Keeps (finite_rules finite) (known (suc j) later all) rest in
+      let P : List ℤ → Type 0 = λ all. Keeps (rules_of (instance.Finite finite)) (known (suc j) later all) rest in
       let Q : ℕ → Type 0 = λ place. CellsPass finite later j (finite.periods - j) place cells in
       record {
         pass = (cell_passes j later values cell kept.0, subst Q (one_longer values cell.value) more.pass);
@@ -132,14 +124,14 @@ module _ (finite : Finite) where
       record { whole = inner.0; more = ltb-true first.rows finite.periods inner.1; is = omega (arith, ints, same) }
 
   -- the lines of rows that break no rule
-  pub rows_kept : (first : FirstRows) (rows : List FiniteRow) → Keeps (finite_rules finite) first (flat_map row_lines rows ++ End ∷ []) → RowsPass finite first rows
+  pub rows_kept : (first : FirstRows) (rows : List FiniteRow) → Keeps (rules_of (instance.Finite finite)) first (flat_map row_lines rows ++ End ∷ []) → RowsPass finite first rows
   rows_kept first [] kept =
       let all = (rule_passed _ None 2 kept.0).0 in
       let parts = and_parts (is_row_whole finite first) (eqb first.rows finite.periods) all in
       (parts.0, eqb-true first.rows finite.periods parts.1)
   rows_kept first (row ∷ rows) kept =
       let period = period_kept first row.period kept.0 in
-      let K : List CertLine → Type 0 = λ lines. Keeps (finite_rules finite) (known (suc first.rows) (last_values finite first) []) lines in
+      let K : List CertLine → Type 0 = λ lines. Keeps (rules_of (instance.Finite finite)) (known (suc first.rows) (last_values finite first) []) lines in
       let lines = subst K (append_assoc (map value_line row.cells) (flat_map row_lines rows) (End ∷ [])) kept.1 in
       let cells = cells_kept first.rows (last_values finite first) [] row.cells (flat_map row_lines rows ++ End ∷ []) lines in
       (record { whole = period.whole; more = period.more; period = period.is; cells = cells.pass }, rows_kept (after_row finite first row) rows cells.behind)
@@ -160,12 +152,12 @@ module _ (finite : Finite) where
       (and_from (not (is_row_whole finite first)) (is_number (finite.cap -ℤ pos place) cell.at) begun at) rule
 
   -- the lines of cells that pass break no rule
-  passing_cells : (j : ℕ) (later : ℤ → ℤ) (values : List ℤ) (cells : List FiniteCell) (rest : List CertLine) → CellsPass finite later j (finite.periods - j) (length values) cells → Keeps (finite_rules finite) (known (suc j) later (values ++ values_of cells)) rest → Keeps (finite_rules finite) (known (suc j) later values) (map value_line cells ++ rest)
+  passing_cells : (j : ℕ) (later : ℤ → ℤ) (values : List ℤ) (cells : List FiniteCell) (rest : List CertLine) → CellsPass finite later j (finite.periods - j) (length values) cells → Keeps (rules_of (instance.Finite finite)) (known (suc j) later (values ++ values_of cells)) rest → Keeps (rules_of (instance.Finite finite)) (known (suc j) later values) (map value_line cells ++ rest)
   passing_cells j later values [] rest pass kept =
-      let P : List ℤ → Type 0 = λ all. Keeps (finite_rules finite) (known (suc j) later all) rest in
+      let P : List ℤ → Type 0 = λ all. Keeps (rules_of (instance.Finite finite)) (known (suc j) later all) rest in
       subst P (append-nil values) kept
   passing_cells j later values (cell ∷ cells) rest pass kept =
-      let P : List ℤ → Type 0 = λ all. Keeps (finite_rules finite) (known (suc j) later all) rest in
+      let P : List ℤ → Type 0 = λ all. Keeps (rules_of (instance.Finite finite)) (known (suc j) later all) rest in
       let Q : ℕ → Type 0 = λ place. CellsPass finite later j (finite.periods - j) place cells in (
         passing_cell j later values cell pass.0,
         passing_cells j later (values ++ cell.value ∷ []) cells rest (subst Q (sym (one_longer values cell.value)) pass.1) (subst P (sym (append_assoc values (cell.value ∷ []) (values_of cells))) kept),
@@ -181,11 +173,11 @@ module _ (finite : Finite) where
       refl
 
   -- the lines of rows that pass break no rule
-  pub passing_rows : (first : FirstRows) (rows : List FiniteRow) → RowsPass finite first rows → Keeps (finite_rules finite) first (flat_map row_lines rows ++ End ∷ [])
+  pub passing_rows : (first : FirstRows) (rows : List FiniteRow) → RowsPass finite first rows → Keeps (rules_of (instance.Finite finite)) first (flat_map row_lines rows ++ End ∷ [])
   passing_rows first [] pass =
       (passing_rule _ None 2 (and_from (is_row_whole finite first) (eqb first.rows finite.periods) pass.0 (eq-eqb first.rows finite.periods pass.1)) refl, tt)
   passing_rows first (row ∷ rows) pass =
-      let K : List CertLine → Type 0 = λ lines. Keeps (finite_rules finite) (known (suc first.rows) (last_values finite first) []) lines in
+      let K : List CertLine → Type 0 = λ lines. Keeps (rules_of (instance.Finite finite)) (known (suc first.rows) (last_values finite first) []) lines in
       let behind = passing_rows (after_row finite first row) rows pass.1 in
       let lines = passing_cells first.rows (last_values finite first) [] row.cells (flat_map row_lines rows ++ End ∷ []) pass.0.cells behind in
       (passing_period first row pass.0, subst K (sym (append_assoc (map value_line row.cells) (flat_map row_lines rows) (End ∷ []))) lines)

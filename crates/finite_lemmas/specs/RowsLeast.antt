@@ -13,17 +13,17 @@ use Rattle.decision_model.specs.FiniteSound.{sound_readable, low_start}
 use Rattle.decision_model.specs.Policies.{Least}
 use Rattle.decision_model.specs.Positions.{above_zero}
 use Rattle.decision_model.specs.PositionTests.{le_known, above_zero_is, above_zero_least}
-use Rattle.value_cert.specs.FiniteRules.{FirstRows, no_rows, listed_value, last_values, is_row_whole, is_allowed, is_least_value, value_rule, cells_of, cell_choice, cell_value, finite_choices, start_value, IsRowOf, HasEachRow, IsLeastPolicy, CertifiesPolicy, finite_rules}
+use Rattle.decision_model.specs.declared.instance.Instance.TheVariants as instance
+use Rattle.value_cert.specs.FiniteRules.{FirstRows, no_rows, listed_value, last_values, is_row_whole, is_allowed, is_least_value, value_rule, cells_of, cell_choice, cell_value, finite_choices, start_value, IsRowOf, HasEachRow, IsLeastPolicy, CertifiesPolicy}
 use Rattle.value_cert.specs.FiniteValues.{value_of, end_value, policy_of, row_width}
-use Rattle.value_cert.specs.Kept.{Keeps}
+use Rattle.value_cert.specs.Kept.{BreaksNoRule}
 use Rattle.value_cert.specs.Numbers.{is_number}
-use Rattle.value_cert.specs.Texts.{cert_lines}
+use Rattle.value_cert.specs.RuleTests.{same_number, number_at, number_other}
 use Rattle.value_cert.specs.declared.cert.Cert.TheVariants as cert
 use Rattle.value_cert.specs.declared.finite.FiniteCell.{FiniteCell}
 use Rattle.value_cert.specs.declared.finite.FiniteCert.{FiniteCert}
 use Rattle.value_cert.specs.declared.finite.FiniteRow.{FiniteRow}
 use Rattle.finite_lemmas.specs.FiniteLeast.{IsCertificate, certified}
-use Rattle.finite_lemmas.specs.NumberTests.{same_number, number_at, number_other}
 use Rattle.finite_lemmas.specs.RowsKept.{CellsPass, RowPasses, RowsPass, after_row, values_of, begun_whole, rows_kept}
 
 -- ---- one row
@@ -296,5 +296,5 @@ module _ (finite : Finite) (readable : IsReadableFinite finite) (c : FiniteCert)
       }
 
 -- a certificate whose lines break no rule
-pub rows_certify : (finite : Finite) → IsReadableFinite finite → (c : FiniteCert) → Keeps (finite_rules finite) (no_rows finite) (cert_lines (cert.Finite c)) → CertifiesPolicy finite (cert.Finite c)
+pub rows_certify : (finite : Finite) → IsReadableFinite finite → (c : FiniteCert) → BreaksNoRule (instance.Finite finite) (cert.Finite c) → CertifiesPolicy finite (cert.Finite c)
 rows_certify finite readable c kept = least_policy finite readable c (rows_kept finite (no_rows finite) c.rows kept.1)

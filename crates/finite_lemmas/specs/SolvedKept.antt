@@ -10,23 +10,23 @@ use Rattle.std.proofs.lemmas.List.FromFn.{length-map-range_with_len}
 use Rattle.demand_law.specs.Integers as Z
 use Rattle.demand_law.specs.WeightedSums.{weighted-ext_within}
 use Rattle.decision_model.specs.declared.finite.Finite.{Finite}
-use Rattle.decision_model.specs.declared.kinds.Kind.TheVariants as kind
+use Rattle.decision_model.specs.declared.instance.Instance.TheVariants as instance
 use Rattle.decision_model.specs.Finite.{IsReadableFinite, finite_low}
 use Rattle.decision_model.specs.FiniteProblem.{law_of_period, top, order_cost}
 use Rattle.decision_model.specs.FiniteSound.{IsSoundFinite, sound_readable, low_next, after_demand, before_cap, up_to_cap}
 use Rattle.decision_model.specs.Positions.{above_zero, positions_from}
 use Rattle.decision_model.specs.PositionTests.{le_test, above_zero_is, above_zero_least}
 use Rattle.decision_model.specs.Stock.{stock_cost}
-use Rattle.value_cert.specs.FiniteRules.{IsLeastPolicy, FirstRows, no_rows, listed_value, last_values, is_row_whole, is_allowed, is_least_value, is_finite_head, value_rule, solved_cell, solved_row, solved_finite, finite_rules}
+use Rattle.value_cert.specs.FiniteRules.{IsLeastPolicy, FirstRows, no_rows, listed_value, last_values, is_row_whole, is_allowed, is_least_value, value_rule, solved_cell, solved_row, solved_finite}
 use Rattle.value_cert.specs.FiniteValues.{scale, stock_scale, lead_law, cost_after, value_of, end_value, least_choice, least_values, row_width}
-use Rattle.value_cert.specs.Kept.{Keeps}
+use Rattle.value_cert.specs.Headings.{heading_of}
+use Rattle.value_cert.specs.Kept.{BreaksNoRule, own_head}
 use Rattle.value_cert.specs.Numbers.{is_number}
-use Rattle.value_cert.specs.Texts.{cert_lines}
+use Rattle.value_cert.specs.RuleTests.{number_at}
 use Rattle.value_cert.specs.declared.cert.Cert.TheVariants as cert
 use Rattle.value_cert.specs.declared.finite.FiniteCell.{FiniteCell}
 use Rattle.finite_lemmas.specs.LeastChoice.{least_choice_is}
 use Rattle.finite_lemmas.specs.RowsLeast.{rows_certify}
-use Rattle.finite_lemmas.specs.NumberTests.{number_at}
 use Rattle.finite_lemmas.specs.RowsKept.{CellsPass, RowsPass, after_row, values_of, begun_whole, passing_rows}
 
 -- ---- the rule on a value
@@ -160,18 +160,12 @@ module _ (finite : Finite) (readable : IsReadableFinite finite) where
             (subst (λ (s : ℕ). Same (j + 1) s) before (subst (λ (k : ℕ). Same k t) next (row_same first j t))),
       )
 
-  -- the solver's head has the instance's discount
-  solved_head : is_finite_head finite kind.Finite (pos finite.discount_num) (pos finite.discount_den) ≡ true
-  solved_head =
-      and_from (is_number (pos finite.discount_num) (pos finite.discount_num)) (is_number (pos finite.discount_den) (pos finite.discount_den))
-      (number_at (pos finite.discount_num) (pos finite.discount_num) refl) (number_at (pos finite.discount_den) (pos finite.discount_den) refl)
-
   -- each line of the solver's certificate breaks no rule behind those before it
-  pub solved_breaks_nothing : Keeps (finite_rules finite) (no_rows finite) (cert_lines (cert.Finite (solved_finite finite)))
+  pub solved_breaks_nothing : BreaksNoRule (instance.Finite finite) (cert.Finite (solved_finite finite))
   unfolding least_values
   solved_breaks_nothing =
       let rows = (solved_finite finite).rows in (
-        ap (λ b. cond {A = Option ℕ} b None (Some 2)) solved_head,
+        own_head (heading_of (instance.Finite finite)),
         passing_rows finite (no_rows finite) rows (solved_rows finite.periods 0 (no_rows finite) (omega arith) refl refl (λ x from to. refl)),
       )
 

@@ -3,7 +3,7 @@ use Rattle.std.proofs.Common.{◌≡◌, ℕ, ◌+◌, ◌<◌, ℤ, pos, ◌-�
 use Rattle.std.proofs.lemmas.Int.{ints}
 use Rattle.decision_model.specs.Stock.{AreWeights, HasRoom}
 use Rattle.decision_model.specs.Walks.{IsWalk, IsWalkOf, place_of, over_of, under_of}
-use Rattle.decision_model.specs.declared.walk.Walk.{Walk}
+use Rattle.least_values.specs.declared.walk.Walk.{Walk}
 use Rattle.value_cert.specs.FiniteValues.{lead_law}
 use Rattle.finite_recursion.specs.Recursions.{is_whole}
 use Rattle.finite_recursion.specs.Rows.{row_period}

@@ -6,8 +6,8 @@ use Rattle.std.proofs.lemmas.Int.{ints}
 use Rattle.decision_model.specs.PositionTests.{le_test, le_known}
 use Rattle.value_cert.specs.FiniteRules.{cell_choice}
 use Rattle.value_cert.specs.Numbers.{is_number}
+use Rattle.value_cert.specs.RuleTests.{same_number, number_at, number_other}
 use Rattle.value_cert.specs.declared.finite.FiniteCell.{FiniteCell}
-use Rattle.finite_lemmas.specs.NumberTests.{same_number, number_at, number_other}
 use Rattle.finite_ss.specs.Shapes.{all_order_to, shape_of}
 use Rattle.finite_ss.specs.declared.shapes.Shape.{Shape}
 use Rattle.finite_ss.specs.declared.shapes.Shape.TheVariants.{Pair, Never, Table}

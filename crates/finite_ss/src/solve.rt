@@ -1,12 +1,13 @@
 // The solver.
 ghost use Rattle.std.specs.Prelude.{◌≡◌, ℕ, suc, ◌+◌, ◌-◌, ◌<◌, ◌≤◌, false, true, IfOk, OnOk};
 ghost use Rattle.decision_model.specs.Finite.{IsValidFinite};
+ghost use Rattle.decision_model.specs.declared.instance.Instance.TheVariants as instance;
 ghost use Rattle.finite_lemmas.specs.SolvedFronts.{cell_at_place};
 ghost use Rattle.finite_recursion.specs.Recursions.{finite_of, rows_of, place_of, is_whole};
 ghost use Rattle.finite_ss.specs.Solving.{HasFront, HasSolved};
-ghost use Rattle.value_cert.specs.FiniteRules.{IsLeastPolicy, finite_rules, no_rows, solved_row, solved_finite};
-ghost use Rattle.value_cert.specs.Kept.{Keeps};
-ghost use Rattle.value_cert.specs.Texts.{HasText, cert_lines};
+ghost use Rattle.value_cert.specs.FiniteRules.{IsLeastPolicy, solved_row, solved_finite};
+ghost use Rattle.value_cert.specs.Kept.{BreaksNoRule};
+ghost use Rattle.value_cert.specs.Texts.{HasText};
 ghost use Rattle.value_cert.specs.declared.cert.Cert.TheVariants as cert;
 
 use decision_model::{Finite, Items};
@@ -110,7 +111,7 @@ pub fn solve_finite(alloc: Global, finite: &Finite) -> Result<FiniteCert, Memory
     requires { IsValidFinite finite.now }
     ensures exact { IfOk result (λ c. c ≡ solved_finite finite.now) }
     ensures least { IfOk result (IsLeastPolicy finite.now) }
-    ensures accepted { IfOk result (λ c. Keeps (finite_rules finite.now) (no_rows finite.now) (cert_lines (cert.Finite c))) }
+    ensures accepted { IfOk result (λ c. BreaksNoRule (instance.Finite finite.now) (cert.Finite c)) }
     ensures text { IfOk result (λ c. HasText (cert.Finite c)) }
 {
     match solve_rows(alloc, finite) {

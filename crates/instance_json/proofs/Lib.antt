@@ -1,8 +1,5 @@
-pub mod Places
 pub mod BackFields
 pub mod Starts
-pub mod BackNames
-pub mod BackNodes
 pub mod Proven
 pub mod ProvenNews
 pub mod ProvenLots

@@ -6,14 +6,9 @@ pub mod Lots
 pub mod Finite
 pub mod Average
 pub mod Serial
-pub mod Names
-pub mod Places
-pub mod Sources
-pub mod OrderRules
-pub mod Nodes
-pub mod Pauses
 pub mod Network
 pub mod Kinds
 pub mod Rules
 pub mod Reads
 pub mod Written
+pub mod Wide

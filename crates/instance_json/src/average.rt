@@ -3,7 +3,7 @@ ghost use Rattle.std.specs.Prelude.{◌≡◌, IsTrue};
 ghost use Rattle.decision_model.specs.Average.{IsUnitDemand};
 ghost use Rattle.instance_json.specs.Average.{lots_fit};
 
-use crate::fields::Policy;
+use crate::fields::{LEAD, Policy, SETUP};
 use crate::kinds::KindText;
 use decision_model::{Average, Kind, has_demand, is_unit_demand};
 use json_forms::fault::{InstanceErr, InstanceFault};
@@ -11,7 +11,7 @@ use json_forms::form::{in_range, optional, required};
 use json_forms::keys::KeyRow::{Allowed, Needed};
 use json_forms::keys::{KeyRow, has_keys};
 use json_forms::laws::DemandLaw;
-use json_forms::numbers::{LEAD, Position, RATE, SETUP};
+use json_forms::numbers::{Position, RATE};
 use json_forms::write_values::{law_value, put_amounts, put_text};
 use serde_json::{Map, Value, put};
 use std::alloc::{AllocError, Global};

@@ -1,4 +1,4 @@
-// Values of single keys: a policy, the positions of a serial system.
+// Values of single keys: a setup cost, a lead time, a policy, the positions of a serial system.
 ghost use Rattle.std.specs.Prelude.{◌≡◌};
 ghost use Rattle.std.specs.List.{list_all};
 ghost use Rattle.std.specs.Prelude.{int_le};
@@ -6,11 +6,24 @@ ghost use Rattle.serde_json.specs.View.{view};
 ghost use Rattle.instance_json.specs.Positions.{rises_from, is_start};
 ghost use Rattle.instance_json.specs.Fields.{policy_in};
 
-use decision_model::limits::LEAST_POSITION;
+use decision_model::limits::{LEAST_POSITION, MOST_LEAD, MOST_SETUP};
 use json_forms::fault::{FieldErr, FieldFault};
 use json_forms::form::Form;
+use json_forms::numbers::{Amount, Count};
 use serde_json::Value;
 use std::alloc::Global;
+
+/// A setup cost over a horizon of uncertain demand.
+pub const SETUP: Amount = Amount {
+    least: 0,
+    most: MOST_SETUP,
+};
+
+/// A lead time.
+pub const LEAD: Count = Count {
+    least: 0,
+    most: MOST_LEAD,
+};
 
 // Whether a policy is a reorder point with a lot.
 fn policy_of(value: &Value) -> Result<bool, FieldFault>

@@ -5,6 +5,7 @@ ghost use Rattle.json_forms.specs.Faults.{Gives};
 ghost use Rattle.json_forms.specs.Members.{put_all, listed};
 ghost use Rattle.instance_json.specs.Finite.{AreCostRates, finite_costs_of, with_most, finite_to_lead, finite_from_periods};
 
+use crate::fields::{LEAD, SETUP};
 use crate::kinds::KindText;
 use decision_model::limits::MOST_ORDER;
 use decision_model::{Finite, Kind};
@@ -14,7 +15,7 @@ use json_forms::form::{given, in_range, optional, required};
 use json_forms::keys::KeyRow::{Allowed, Needed};
 use json_forms::keys::{KeyRow, has_keys};
 use json_forms::laws::DemandLaws;
-use json_forms::numbers::{Amount, Cap, LEAD, PERIODS, Position, RATE, SETUP, TOTAL};
+use json_forms::numbers::{Amount, Cap, PERIODS, Position, RATE, TOTAL};
 use json_forms::write_values::{discount_value, laws_value, put_amounts, put_text};
 use serde_json::{Map, Value, put};
 use std::alloc::{AllocError, Global};

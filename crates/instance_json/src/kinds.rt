@@ -38,8 +38,9 @@ pub trait KindText: Sized {
         ensures typed { text.typed self.now };
 }
 
+/// An instance with the keys of its kind, its rules over several keys aside.
 #[tactic(auto, using(json_forms::proofs::Chained::steps), unfolding(crate::specs::KindText::read_by))]
-fn read_by<K: KindText>(alloc: Global, object: &Value) -> Result<K, InstanceErr>
+pub fn read_by<K: KindText>(alloc: Global, object: &Value) -> Result<K, InstanceErr>
     ensures value { Gives result (read_by K.text (view object.now)) }
     ensures readable { IfOk result K.text.readable }
 {

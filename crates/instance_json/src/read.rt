@@ -13,8 +13,8 @@ use json_forms::json_text::json;
 use serde_json::Value;
 use std::alloc::Global;
 
-// The kind that an object says.
-fn kind_in(object: &Value) -> Option<Kind>
+/// The kind that an object says.
+pub fn kind_in(object: &Value) -> Option<Kind>
     ensures { result ≡ kind_in (view object.now) }
 {
     let value = object.get("kind")?;

@@ -19,9 +19,7 @@ pub fn write_instance(alloc: Global, instance: &Instance) -> Result<Vec<u8>, Mem
     ensures reads_back { IsValid instance.now → IfOk result (λ bytes. reads bytes.items ≡ Ok instance.now) }
     ensures is_json { IfOk result (λ bytes. read bytes.items ≡ Some (instance_data instance.now)) }
 {
-    let Ok(value) = to_value(alloc, instance) else {
-        return Err(Memory);
-    };
+    let value = to_value(alloc, instance)?;
     match value.to_vec(alloc) {
         Ok(bytes) => Ok(bytes),
         Err(_) => Err(Memory),

@@ -1,6 +1,6 @@
 -- A discount that was written is read back.
 use Rattle.std.proofs.Common.{◌≡◌, ℕ, Ok, refl, arith}
-use Rattle.decision_model.specs.Rates.{IsDiscount}
+use Rattle.model_terms.specs.Rates.{IsDiscount}
 use Rattle.json_forms.specs.declared.law_texts.NumberTest.TheVariants.{Whole}
 use Rattle.json_forms.specs.Discounts.{discount_in}
 use Rattle.json_forms.specs.WrittenValues.{pair_data}

@@ -9,7 +9,7 @@ use Rattle.std.proofs.lemmas.List.{length-map}
 use Rattle.serde_json.specs.Data.{Data}
 use Rattle.demand_law.specs.Points.{points_fault, points_law}
 use Rattle.demand_law.specs.Named.{rescale_fault, rescaled_law}
-use Rattle.decision_model.specs.DemandLaws.{IsDemandLaw, AreDemandLaws, common_total}
+use Rattle.model_terms.specs.DemandLaws.{IsDemandLaw, AreDemandLaws, common_total}
 use Rattle.json_forms.specs.declared.fault.FieldFault.{FieldFault}
 use Rattle.json_forms.specs.declared.fault.FieldFault.TheVariants.{LengthMismatch}
 use Rattle.json_forms.specs.declared.law_texts.LawForm.TheVariants.{Points}

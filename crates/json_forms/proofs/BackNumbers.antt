@@ -3,7 +3,7 @@ use Rattle.std.proofs.Common.{◌≡◌, ℕ, suc, ◌^◌, ◌<◌, ◌≤◌, 
 use Rattle.std.proofs.lemmas.Int.{ints}
 use Rattle.std.specs.Prelude.{int_le, is_some, ◌||◌, nat_lt}
 use Rattle.std.specs.List.{list_all}
-use Rattle.decision_model.specs.Positions.{IsPosition, IsCap}
+use Rattle.model_terms.specs.Positions.{IsPosition, IsCap}
 use Rattle.serde_json.specs.Data.{Data}
 use Rattle.serde_json.specs.View.{items_of}
 use Rattle.json_forms.specs.declared.fault.FieldFault.TheVariants.{WrongType}

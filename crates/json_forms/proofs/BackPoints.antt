@@ -5,7 +5,7 @@ use Rattle.std.specs.List.{range_with_len}
 use Rattle.std.proofs.lemmas.Bool.{eqb-true}
 use Rattle.std.proofs.lemmas.List.Sums.{sum_by-cons}
 use Rattle.demand_law.specs.Points.{weight_in, total_in, width_in, is_listed, first_fault, sum_fault, points_fault, points_law}
-use Rattle.decision_model.specs.DemandLaws.{IsDemandLaw}
+use Rattle.model_terms.specs.DemandLaws.{IsDemandLaw}
 use Rattle.json_forms.specs.WrittenValues.{points_from}
 
 -- a demand and its weight

@@ -7,8 +7,8 @@ use Rattle.std.proofs.lemmas.Bool.{leb-true, eqb-true}
 use Rattle.std.proofs.lemmas.List.Elements.{All-cons, All-nil}
 use Rattle.std.proofs.lemmas.Str.{IsUtf8-from_ascii, is_utf8-from_IsUtf8, IsUtf8-from_is_utf8}
 use Rattle.std.proofs.lemmas.Str.Ascii.{IsAscii-from_all}
-use Rattle.decision_model.specs.Limits.{most_name}
-use Rattle.decision_model.specs.Nodes.{is_from_to, is_name_byte, is_node_name, outside}
+use Rattle.model_terms.specs.Limits.{most_name}
+use Rattle.model_terms.specs.Names.{is_from_to, is_name_byte, is_node_name, outside}
 use Rattle.json_forms.specs.NodeNames.{Name, name_text}
 
 pub text_of_valid : (name : Name) → IsUtf8 name → name_text name ≡ name

@@ -2,7 +2,7 @@
 use Rattle.std.specs.Prelude.{ℕ, if◌then◌else◌, Option, Some, None, Result, Ok, Err}
 use Rattle.serde_json.specs.Data.{Data}
 use Rattle.serde_json.specs.Find.{at}
-use Rattle.decision_model.specs.Limits.{most_discount}
+use Rattle.model_terms.specs.Limits.{most_discount}
 use Rattle.json_forms.specs.declared.fault.FieldFault.{FieldFault}
 use Rattle.json_forms.specs.declared.fault.FieldFault.TheVariants.{WrongType}
 use Rattle.json_forms.specs.declared.law_texts.NumberTest.TheVariants.{Whole}

@@ -10,7 +10,7 @@ use Rattle.demand_law.specs.Named.{uniform_fault, uniform_law, binomial_fault, b
 use Rattle.demand_law.specs.declared.law.LawFault.{LawFault}
 use Rattle.demand_law.specs.declared.law.LawErr.{LawErr}
 use Rattle.demand_law.specs.declared.law.LawErr.TheVariants as law
-use Rattle.decision_model.specs.Limits.{most_word}
+use Rattle.model_terms.specs.Limits.{most_word}
 use Rattle.json_forms.specs.declared.fault.FieldErr.{FieldErr}
 use Rattle.json_forms.specs.declared.fault.FieldErr.TheVariants.{Bad, Memory}
 use Rattle.json_forms.specs.declared.fault.FieldFault.{FieldFault}

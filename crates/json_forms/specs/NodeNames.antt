@@ -3,7 +3,7 @@ use Rattle.std.specs.Prelude.{ℕ, List, [], if◌then◌else◌, Option, Some, 
 use Rattle.std.specs.Str.{is_utf8}
 use Rattle.serde_json.specs.Data.{Data, string}
 use Rattle.serde_json.specs.Find.{as_str}
-use Rattle.decision_model.specs.Nodes.{is_node_name}
+use Rattle.model_terms.specs.Names.{is_node_name}
 use Rattle.json_forms.specs.declared.fault.FieldFault.{FieldFault}
 use Rattle.json_forms.specs.declared.fault.FieldFault.TheVariants.{WrongType, OutOfRange}
 use Rattle.json_forms.specs.Steps.{◌>>=◌}

@@ -3,7 +3,7 @@ use Rattle.std.specs.Prelude.{ℕ, ◌&&◌, ◌||◌, ℤ, pos, List, [], ◌�
 use Rattle.std.specs.List.{list_all}
 use Rattle.serde_json.specs.Data.{Data, Items, no_items, item}
 use Rattle.serde_json.specs.Find.{as_number, as_u64, as_i64, as_array}
-use Rattle.decision_model.specs.Limits.{least_position, most_position, most_cap}
+use Rattle.model_terms.specs.Limits.{least_position, most_position, most_cap}
 use Rattle.json_forms.specs.declared.fault.FieldFault.{FieldFault}
 use Rattle.json_forms.specs.declared.fault.FieldFault.TheVariants.{WrongType, OutOfRange, LengthMismatch}
 use Rattle.json_forms.specs.Steps.{◌>>=◌, each}

@@ -2,14 +2,14 @@
 ghost use Rattle.std.specs.Prelude.{◌≡◌, ◌≤◌, IfOk};
 ghost use Rattle.serde_json.specs.View.{view};
 ghost use Rattle.serde_json.specs.Find.{at};
-ghost use Rattle.decision_model.specs.Rates.{IsDiscount};
+ghost use Rattle.model_terms.specs.Rates.{IsDiscount};
 ghost use Rattle.json_forms.specs.Discounts.{part_of, discount_in};
 
 use crate::fault::{FieldErr, FieldFault};
 use crate::form::Form;
 use crate::law_texts::{NumberTest, is_tuple};
 use crate::numbers::count_of;
-use decision_model::limits::MOST_DISCOUNT;
+use model_terms::limits::MOST_DISCOUNT;
 use serde_json::Value;
 use std::alloc::Global;
 

@@ -3,7 +3,7 @@ ghost use Rattle.std.specs.Prelude.{◌≡◌, IfOk, IfErr};
 ghost use Rattle.json_forms.specs.Faults.{top_key, fault_of_key, IsKeyErr, item_key, at_item, item_err};
 
 use demand_law::LawFault;
-use fraction128::Text;
+use fraction128::{Memory, Text};
 use std::alloc::{AllocError, AllocFailed, Global};
 
 /// The list that a key's object stands in.
@@ -125,20 +125,48 @@ impl From<FieldFault> for FieldErr {
     }
 }
 
+impl From<Memory> for FieldErr {
+    ghost use Rattle.json_forms.specs.declared.fault.FieldErr.TheVariants.{Memory};
+
+    ghost from_gives = { λ _ e. e ≡ Memory };
+
+    fn from(_refused: Memory) -> FieldErr {
+        FieldErr::Memory
+    }
+}
+
+impl From<AllocError> for InstanceErr {
+    ghost use Rattle.json_forms.specs.declared.fault.InstanceErr.TheVariants.{Memory};
+
+    ghost from_gives = { λ _ e. e ≡ Memory };
+
+    fn from(_refused: AllocError) -> InstanceErr {
+        InstanceErr::Memory
+    }
+}
+
+impl From<Memory> for InstanceErr {
+    ghost use Rattle.json_forms.specs.declared.fault.InstanceErr.TheVariants.{Memory};
+
+    ghost from_gives = { λ _ e. e ≡ Memory };
+
+    fn from(_refused: Memory) -> InstanceErr {
+        InstanceErr::Memory
+    }
+}
+
 // A key of the instance itself.
 pub fn top_key(alloc: Global, name: &str) -> Result<Key, InstanceErr>
     ensures ok { IfOk result (λ key. key ≡ top_key name.now) }
     ensures err { IfErr result (λ e. e ≡ InstanceErr.Memory) }
 {
     let mut text = Text::new(alloc);
-    match text.push(name.as_bytes()) {
-        Ok(()) => Ok(Key {
-            list: KeyList::Top,
-            item: 0,
-            name: text,
-        }),
-        Err(_) => Err(InstanceErr::Memory),
-    }
+    text.push(name.as_bytes())?;
+    Ok(Key {
+        list: KeyList::Top,
+        item: 0,
+        name: text,
+    })
 }
 
 // What is wrong with the value of a key, with the key.

@@ -9,7 +9,7 @@ ghost use Rattle.json_forms.specs.Items.{is_object, objects_in, items_from};
 use crate::fault::{FieldErr, FieldFault, InstanceErr, KeyList, item_err, key_err};
 use crate::form::missing;
 use crate::numbers::items;
-use decision_model::Items;
+use model_terms::Items;
 use serde_json::Value;
 use std::alloc::Global;
 

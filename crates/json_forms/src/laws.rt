@@ -3,8 +3,8 @@ ghost use Rattle.std.specs.Prelude.{◌≡◌, ◌≤◌, All, Some, None, Ok, E
 ghost use Rattle.std.specs.List.{list_all};
 ghost use Rattle.serde_json.specs.View.{view};
 ghost use Rattle.demand_law.specs.Named.{rescale_fault, rescaled_law};
-ghost use Rattle.decision_model.specs.Limits.{most_total};
-ghost use Rattle.decision_model.specs.DemandLaws.{IsDemandLaw, AreDemandLaws, common_total};
+ghost use Rattle.model_terms.specs.Limits.{most_total};
+ghost use Rattle.model_terms.specs.DemandLaws.{IsDemandLaw, AreDemandLaws, common_total};
 ghost use Rattle.json_forms.specs.Faults.{GivesField};
 ghost use Rattle.json_forms.specs.LawTexts.{is_law, all_laws, law_in, made as made_of, common_sum, scaled_law, scaled_laws, one_law, laws_each, laws_in};
 
@@ -12,8 +12,8 @@ use crate::fault::{FieldErr, FieldFault};
 use crate::form::Form;
 use crate::law_texts::{NumberTest, is_law, law_of, made};
 use crate::numbers::items;
-use decision_model::Laws;
 use demand_law::Law;
+use model_terms::Laws;
 use serde_json::Value;
 use std::alloc::Global;
 use std::slice;

@@ -2,13 +2,13 @@
 ghost use Rattle.std.specs.Prelude.{◌≡◌, Ok, Err, MatchResult};
 ghost use Rattle.std.specs.List.{list_all};
 ghost use Rattle.serde_json.specs.View.{view};
-ghost use Rattle.decision_model.specs.Nodes.{is_name_byte, is_node_name};
+ghost use Rattle.model_terms.specs.Names.{is_name_byte, is_node_name};
 ghost use Rattle.json_forms.specs.NodeNames.{text_in, node_name_in, name_text};
 
 use crate::fault::{FieldErr, FieldFault};
 use crate::form::Form;
-use decision_model::limits::MOST_NAME;
 use fraction128::Text;
+use model_terms::limits::MOST_NAME;
 use serde_json::Value;
 use std::alloc::Global;
 use std::str;
@@ -57,7 +57,7 @@ pub struct NodeName;
 
 impl Form for NodeName {
     ghost use Rattle.std.specs.Prelude.{⊤, IsTrue};
-    ghost use Rattle.decision_model.specs.Nodes.{is_node_name};
+    ghost use Rattle.model_terms.specs.Names.{is_node_name};
 
     type Out = Text;
 
@@ -73,10 +73,8 @@ impl Form for NodeName {
             return Err(FieldErr::Bad(FieldFault::OutOfRange));
         }
         let mut text = Text::new(alloc);
-        match text.push(name.as_bytes()) {
-            Ok(()) => Ok(text),
-            Err(_) => Err(FieldErr::Memory),
-        }
+        text.push(name.as_bytes())?;
+        Ok(text)
     }
 }
 

@@ -2,7 +2,7 @@
 ghost use Rattle.std.specs.Prelude.{◌≡◌, ◌≤◌, length, map, All, Ok, Err, IfOk, IfErr, MatchResult, option_map, replicate};
 ghost use Rattle.std.specs.List.{list_all};
 ghost use Rattle.serde_json.specs.View.{view};
-ghost use Rattle.decision_model.specs.Positions.{IsPosition, IsCap};
+ghost use Rattle.model_terms.specs.Positions.{IsPosition, IsCap};
 ghost use Rattle.json_forms.specs.Steps.{each};
 ghost use Rattle.json_forms.specs.Faults.{Gives, GivesField};
 ghost use Rattle.json_forms.specs.Keys.{optional};
@@ -10,11 +10,10 @@ ghost use Rattle.json_forms.specs.Numbers.{is_whole, items_in, all_whole, amount
 
 use crate::fault::{FieldErr, FieldFault, InstanceErr};
 use crate::form::{Form, given};
-use decision_model::limits::{
-    LEAST_POSITION, MOST_CAP, MOST_LEAD, MOST_PERIODS, MOST_POSITION, MOST_RATE, MOST_SETUP,
-    MOST_TOTAL,
+use model_terms::limits::{
+    LEAST_POSITION, MOST_CAP, MOST_PERIODS, MOST_POSITION, MOST_RATE, MOST_TOTAL,
 };
-use decision_model::{Amounts, Positions};
+use model_terms::{Amounts, Positions};
 use serde_json::Value;
 use std::alloc::Global;
 
@@ -255,12 +254,6 @@ pub const RATE: Amount = Amount {
     most: MOST_RATE,
 };
 
-/// A setup cost over a horizon of uncertain demand.
-pub const SETUP: Amount = Amount {
-    least: 0,
-    most: MOST_SETUP,
-};
-
 /// A small whole number in a range.
 #[derive(Clone, Copy)]
 pub struct Count {
@@ -289,12 +282,6 @@ impl Form for Count {
 pub const PERIODS: Count = Count {
     least: 1,
     most: MOST_PERIODS,
-};
-
-/// A lead time.
-pub const LEAD: Count = Count {
-    least: 0,
-    most: MOST_LEAD,
 };
 
 /// The sum of weights that all laws get.
@@ -419,10 +406,8 @@ fn zeros(alloc: Global, places: usize) -> Result<Amounts, InstanceErr>
     ensures ok { IfOk result (λ rates. rates ≡ replicate places 0) }
     ensures err { IfErr result (λ e. e ≡ InstanceErr.Memory) }
 {
-    match vec![in alloc; 0; places] {
-        Ok(rates) => Ok(Amounts::new(rates)),
-        Err(_) => Err(InstanceErr::Memory),
-    }
+    let rates = vec![in alloc; 0; places]?;
+    Ok(Amounts::new(rates))
 }
 
 /// The rates under a key, or 0 a place where it is absent.

@@ -1,8 +1,8 @@
 -- The first breach of more lines.
 use Rattle.std.proofs.Common.{◌≡◌, ℕ, Bool, true, false, cond, List, [], ◌∷◌, ◌++◌, Option, Some, None, refl, sym, ap, ◌∙◌, append_assoc, append-nil}
 use Rattle.std.specs.Prelude.{is_none}
-use Rattle.line_text.specs.BreachSteps.{none_here, none_further, or_none, or_some, or_more}
-use Rattle.line_text.specs.Breaches.{RuledGrammar, Breach, breach_behind, breach_or, broken_rule, lines_breach_from, lines_breach}
+use Rattle.line_text.specs.BreachSteps.{none_here, none_further, or_none, or_more}
+use Rattle.line_text.specs.Breaches.{RuledGrammar, Breach, breach_or, broken_rule, lines_breach_from, lines_breach}
 use Rattle.line_text.specs.Grammar.{has_ended, place_from, place_after}
 use Rattle.line_text.specs.Rules.{later_rule}
 use Rattle.line_check.specs.Verdicts.{rejected_by, verdict_or, passing_verdict, fed_verdict, is_rejection}

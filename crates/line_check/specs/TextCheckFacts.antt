@@ -6,7 +6,7 @@ use Rattle.std.proofs.lemmas.Bool.{false≢true}
 use Rattle.std.proofs.lemmas.List.{length-append, length-drop, take_all, take-append-drop}
 use borrow.Author.Tests.{ne_eqb}
 use Rattle.line_text.specs.Breaches.{RuledGrammar, Breach, breach_behind, lines_breach, next_line}
-use Rattle.line_text.specs.Grammar.{has_ended, place_after}
+use Rattle.line_text.specs.Grammar.{GrammarOf, has_ended, place_after}
 use Rattle.line_text.specs.Reading.{ReaderState, IsUnfinished, HasRead, Reads, Refuses, lines_text}
 use Rattle.line_text.specs.TextBreaches.{end_breach, pieces_breach, text_breach}
 use Rattle.line_text.specs.TextBreachFacts.{pieces_of, text_breach-read, text_breach-ended, refused_breach}
@@ -151,9 +151,9 @@ reads_piece G knew knows old new v bytes piece count (Some line) reading some en
     ends_line G knew knows old new v bytes line reading ended.place (feeds reading.lines reading.known) (bytes ++ take count piece) (read reading.lines reading.read) short ended.unfinished
 
 -- a line that ended may stand where it does
-pub may_stand : (G : RuledGrammar) (old new : ReaderState G.Place) (piece : List ℕ) (count : ℕ) (line : Option G.Line) → Reads G.grammar old new piece count line → IfSome line (MayStand G.grammar)
-may_stand G old new piece count None reads = tt
-may_stand G old new piece count (Some line) reads = record { at = old.place; next = new.place; step = reads.place }
+pub may_stand : {L P : Type 0} (grammar : GrammarOf L P) (old new : ReaderState P) (piece : List ℕ) (count : ℕ) (line : Option L) → Reads grammar old new piece count line → IfSome line (MayStand grammar)
+may_stand grammar old new piece count None reads = tt
+may_stand grammar old new piece count (Some line) reads = record { at = old.place; next = new.place; step = reads.place }
 
 -- the reader refused the line under way
 pub refuses : (G : RuledGrammar) (knew knows : List G.Line → Type 0) (old new : ReaderState G.Place) (was now : Verdict) (bytes piece : List ℕ) → IsTextCheckOf G knew old was bytes → is_rejection was ≡ false

@@ -5,7 +5,7 @@ ghost use Rattle.line_check.specs.Rules.{MayStand, AnswersLine};
 
 use line_text::Grammar;
 
-/// Rules on lines under a grammar, which know of the lines so far what they ask of the next one.
+/// Rules on the lines of a type of grammars, which know of the lines so far what they ask of the next one.
 pub trait LineRules<G: Grammar> {
     /// What they are the rules of.
     type Of;
@@ -17,7 +17,7 @@ pub trait LineRules<G: Grammar> {
 
     /// Takes a line that may stand behind those so far, which broke no rule: the least rule from 2 on that it breaks.
     fn feed(&mut self, line: &G::Line) -> Option<u32>
-        requires { MayStand G.grammar line.now }
+        requires { (grammar : G) × MayStand (G.grammar grammar) line.now }
         ensures { (of : Self.Of) (before : List G.Line) → knows self.old of before →
             AnswersLine (rules of) (knows self.new of) before line.now result };
 }

@@ -20,13 +20,15 @@ pub struct TextCheck<G: Grammar, R: LineRules<G> + Drop> {
 }
 
 impl<G: Grammar, R: LineRules<G> + Drop> TextCheck<G, R> {
-    /// A check of a text of which nothing came, by rules that know of no line.
-    pub fn new(rules: R) -> TextCheck<G, R>
-        ensures { (of : R.Of) → R.knows rules of [] →
-            IsTextCheckOf (ruled G.grammar (R.rules of)) (R.knows result.rules of) result.reader result.verdict [] }
+    /// A check of a text of this grammar of which nothing came, by rules that know of no line.
+    pub fn new(grammar: G, rules: R) -> TextCheck<G, R>
+        ensures grammar { result.reader.grammar ≡ grammar }
+        ensures stands { (of : R.Of) → R.knows rules of [] →
+            IsTextCheckOf (ruled (G.grammar grammar) (R.rules of)) (R.knows result.rules of)
+            result.reader.lines result.verdict [] }
     {
         TextCheck {
-            reader: LineReader::new(),
+            reader: LineReader::new(grammar),
             rules,
             verdict: Verdict::Going,
         }
@@ -34,10 +36,11 @@ impl<G: Grammar, R: LineRules<G> + Drop> TextCheck<G, R> {
 
     // The verdict behind a line, if one of this number ended.
     fn verdict_behind(&mut self, line: Option<G::Line>, number: u64) -> Verdict
-        requires { IfSome line (MayStand G.grammar) }
+        requires { IfSome line (MayStand (G.grammar self.old.reader.grammar)) }
         ensures reader { self.new.reader ≡ self.old.reader }
-        ensures feeds { (of : R.Of) → FeedsLine (ruled G.grammar (R.rules of)) (R.knows self.old.rules of) (R.knows self.new.rules of)
-            number (G.grammar.ends self.old.reader.place) line result }
+        ensures feeds { (of : R.Of) → FeedsLine (ruled (G.grammar self.old.reader.grammar) (R.rules of))
+            (R.knows self.old.rules of) (R.knows self.new.rules of)
+            number ((G.grammar self.old.reader.grammar).ends self.old.reader.lines.place) line result }
     {
         let Some(line) = line else {
             return Verdict::Going;
@@ -53,9 +56,12 @@ impl<G: Grammar, R: LineRules<G> + Drop> TextCheck<G, R> {
         requires { 0 < length piece.now }
         ensures within { result ≤ length piece.now }
         ensures some { 0 < result }
+        ensures grammar { self.new.reader.grammar ≡ self.old.reader.grammar }
         ensures stands { (of : R.Of) (bytes : List ℕ) →
-            IsTextCheckOf (ruled G.grammar (R.rules of)) (R.knows self.old.rules of) self.old.reader self.old.verdict bytes →
-            IsTextCheckOf (ruled G.grammar (R.rules of)) (R.knows self.new.rules of) self.new.reader self.new.verdict (bytes ++ take result piece.now) }
+            IsTextCheckOf (ruled (G.grammar self.old.reader.grammar) (R.rules of)) (R.knows self.old.rules of)
+            self.old.reader.lines self.old.verdict bytes →
+            IsTextCheckOf (ruled (G.grammar self.old.reader.grammar) (R.rules of)) (R.knows self.new.rules of)
+            self.new.reader.lines self.new.verdict (bytes ++ take result piece.now) }
         ensures kept { is_rejection self.old.verdict ≡ true → self.new.verdict ≡ self.old.verdict }
     {
         if self.verdict.is_rejected() {
@@ -80,12 +86,16 @@ impl<G: Grammar, R: LineRules<G> + Drop> TextCheck<G, R> {
     /// Takes the next bytes: the verdict on the bytes so far. It is `Rejected` as soon as a line that breaks a rule has
     /// ended or has come to the limit, and then ever after; `Accepted` where the bytes so far are a whole text.
     pub fn push(&mut self, piece: &[u8]) -> Verdict
+        ensures grammar { self.new.reader.grammar ≡ self.old.reader.grammar }
         ensures stands { (of : R.Of) (bytes : List ℕ) →
-            IsTextCheckOf (ruled G.grammar (R.rules of)) (R.knows self.old.rules of) self.old.reader self.old.verdict bytes →
-            IsTextCheckOf (ruled G.grammar (R.rules of)) (R.knows self.new.rules of) self.new.reader self.new.verdict (bytes ++ piece.now) }
+            IsTextCheckOf (ruled (G.grammar self.old.reader.grammar) (R.rules of)) (R.knows self.old.rules of)
+            self.old.reader.lines self.old.verdict bytes →
+            IsTextCheckOf (ruled (G.grammar self.old.reader.grammar) (R.rules of)) (R.knows self.new.rules of)
+            self.new.reader.lines self.new.verdict (bytes ++ piece.now) }
         ensures answer { (of : R.Of) (bytes : List ℕ) →
-            IsTextCheckOf (ruled G.grammar (R.rules of)) (R.knows self.old.rules of) self.old.reader self.old.verdict bytes →
-            Tells (ruled G.grammar (R.rules of)) (bytes ++ piece.now) result }
+            IsTextCheckOf (ruled (G.grammar self.old.reader.grammar) (R.rules of)) (R.knows self.old.rules of)
+            self.old.reader.lines self.old.verdict bytes →
+            Tells (ruled (G.grammar self.old.reader.grammar) (R.rules of)) (bytes ++ piece.now) result }
         // A rejection is the answer to whatever comes behind it.
         ensures last { result ≡ self.new.verdict }
         ensures kept { is_rejection self.old.verdict ≡ true → result ≡ self.old.verdict }
@@ -101,11 +111,13 @@ impl<G: Grammar, R: LineRules<G> + Drop> TextCheck<G, R> {
     /// The verdict on the bytes so far where no more come.
     pub fn end(&self) -> Verdict
         ensures answer { (of : R.Of) (bytes : List ℕ) →
-            IsTextCheckOf (ruled G.grammar (R.rules of)) (R.knows self.now.rules of) self.now.reader self.now.verdict bytes →
-            result ≡ verdict_of (text_breach (ruled G.grammar (R.rules of)) bytes) }
+            IsTextCheckOf (ruled (G.grammar self.now.reader.grammar) (R.rules of)) (R.knows self.now.rules of)
+            self.now.reader.lines self.now.verdict bytes →
+            result ≡ verdict_of (text_breach (ruled (G.grammar self.now.reader.grammar) (R.rules of)) bytes) }
         ensures accepted { (of : R.Of) (bytes : List ℕ) →
-            IsTextCheckOf (ruled G.grammar (R.rules of)) (R.knows self.now.rules of) self.now.reader self.now.verdict bytes →
-            result ≡ Verdict.Accepted → IsWholeText (ruled G.grammar (R.rules of)) bytes }
+            IsTextCheckOf (ruled (G.grammar self.now.reader.grammar) (R.rules of)) (R.knows self.now.rules of)
+            self.now.reader.lines self.now.verdict bytes →
+            result ≡ Verdict.Accepted → IsWholeText (ruled (G.grammar self.now.reader.grammar) (R.rules of)) bytes }
     {
         match self.verdict {
             Verdict::Going => Verdict::Rejected {

@@ -16,6 +16,11 @@ pub record ReaderState (Place : Type 0) : Type 0 where
   -- a line came that could not stand where it did
   pub failed : Bool
 
+-- a reader with the grammar that it reads by
+pub record ReaderOf (Grammar Place : Type 0) : Type 0 where
+  pub grammar : Grammar
+  pub lines : ReaderState Place
+
 -- the text of a line, and of lines
 abbrev pub line_text : {Line Place : Type 0} → GrammarOf Line Place → Line → List ℕ
 line_text {Line} {Place} grammar line = grammar.words line ++ 10 ∷ []

@@ -10,7 +10,7 @@ use Rattle.line_text.specs.Grammar.{has_ended, place_from, place_after}
 use Rattle.line_text.specs.LineWords.{IsWithout}
 use Rattle.line_text.specs.Reading.{ReaderState, line_text, lines_text, IsUnfinished, EndsLine, Refuses, HasRead}
 use Rattle.line_text.specs.ReadingFacts.{slice_split-text, split_behind_line, first_line_refused, past_not_empty, place_from-append}
-use Rattle.line_text.specs.TextBreaches.{end_breach, piece_rule, with_piece, pieces_breach, text_breach}
+use Rattle.line_text.specs.TextBreaches.{end_breach, piece_rule, pieces_breach, text_breach}
 
 -- the pieces of a text: each but the last has a line feed behind it
 abbrev pub pieces_of : List ℕ → List (List ℕ)

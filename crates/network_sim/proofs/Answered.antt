@@ -1,10 +1,10 @@
 -- What rules of the caller's own have answered, period by period.
 use Rattle.std.proofs.Common.{◌≡◌, ℕ, zero, suc, ◌<◌, ◌≤◌, Bool, true, false, cond, nat_le, nat_lt, List, [], ◌∷◌, ◌++◌, length, map, Option, Some, None, if◌then◌else◌, refl, sym, ◌∙◌, ap, subst, arith, get_or, append_assoc, length-append, ◌⊎◌, inl, inr}
 use Rattle.std.proofs.lemmas.Bool.{cases_lt, leb-false, ltb-false, lt-ltb, le-ltb, eq-eqb}
-use Rattle.decision_model.specs.declared.network.NodeSpec.{NodeSpec}
-use Rattle.decision_model.specs.declared.network.Rule.{Rule}
-use Rattle.decision_model.specs.declared.network.Rule.TheVariants.{House}
-use Rattle.decision_model.specs.Nodes.{node_at}
+use Rattle.network_model.specs.declared.network.NodeSpec.{NodeSpec}
+use Rattle.network_model.specs.declared.network.Rule.{Rule}
+use Rattle.network_model.specs.declared.network.Rule.TheVariants.{House}
+use Rattle.network_model.specs.Nodes.{node_at}
 use Rattle.node_state.specs.Handed.{Ask, Handed, rule_at, reply_to}
 use Rattle.node_state.specs.Totals.{Setting, spec_at, ask, asks, answer}
 use Rattle.node_state.specs.Table.{orders_of_run}
@@ -102,6 +102,7 @@ all_answered s t now h = record {
       subst (λ u. HasAnswered (rule_at s.handed index) (rule_at now index) (asks s (orders_of_run s) k u))
       (ap (λ b. cond b (suc t) t) (lt-ltb k (length s.network.nodes) lt) ∙ sym (none_below k (suc (suc t)) (suc t)))
       (h.each k index cap lt e);
+  unnamed = h.unnamed;
 }
 
 -- no rule has been asked yet
@@ -111,4 +112,5 @@ none_asked s = record {
   each = λ k index cap lt e.
       subst (λ u. HasAnswered (rule_at s.handed index) (rule_at s.handed index) (asks s (orders_of_run s) k u)) (sym (none_below k 1 0))
       (record { answers = []; each = refl; rest = λ more. refl });
+  unnamed = λ index none. refl;
 }

@@ -1,6 +1,6 @@
 -- What came in is held or went out; what was ordered is under way, owed, in transit, held or made.
 use Rattle.std.proofs.Common.{◌≡◌, ℕ, ◌+◌, ◌-◌, ◌<◌, ◌≤◌, length, arith, get_or, All}
-use Rattle.decision_model.specs.declared.network.Link.{Link}
+use Rattle.network_model.specs.declared.network.Link.{Link}
 use Rattle.node_state.specs.Holdings.{total}
 use Rattle.node_state.specs.Totals.{Setting, spec_at, before, stock, made, shipped, received, IsShaped}
 use Rattle.node_state.specs.Table.{orders_of_run, served_of_run}

@@ -1,10 +1,10 @@
 -- What a simulator holds before the first period.
 use Rattle.std.proofs.Common.{◌≡◌, ℕ, zero, suc, ◌<◌, List, length, replicate, refl, sym, ◌∙◌, ap, arith, get_or}
-use Rattle.decision_model.specs.declared.network.Network.{Network}
-use Rattle.decision_model.specs.declared.network.Pause.{Pause}
-use Rattle.decision_model.specs.Nodes.{node_at}
-use Rattle.decision_model.specs.Network.{IsValidNetwork}
-use Rattle.decision_model.specs.Pauses.{is_paused}
+use Rattle.network_model.specs.declared.network.Network.{Network}
+use Rattle.network_model.specs.declared.network.Pause.{Pause}
+use Rattle.network_model.specs.Nodes.{node_at}
+use Rattle.network_model.specs.Network.{IsValidNetwork}
+use Rattle.network_model.specs.Pauses.{is_paused}
 use Rattle.node_state.specs.Holdings.{Holding, new_holding, legs_of}
 use Rattle.node_state.specs.Sound.{length-map_of}
 use Rattle.node_state.specs.Handed.{Handed}

@@ -6,11 +6,11 @@ use Rattle.std.proofs.lemmas.List.{get_or-set_same, get_or-set_other}
 use Rattle.rand_pcg.specs.Lcg.{Lcg}
 use Rattle.rand_pcg.specs.Pcg.{pcg32}
 use Rattle.demand_law.specs.Law.{greatest_of, upto_of}
-use Rattle.decision_model.specs.declared.network.Network.{Network}
-use Rattle.decision_model.specs.declared.network.Demand.{Demand}
-use Rattle.decision_model.specs.declared.network.Demand.TheVariants.{Nobody, Trace, Drawn}
-use Rattle.decision_model.specs.Nodes.{node_at, greatest, top_of, IsReadableDemand}
-use Rattle.decision_model.specs.Network.{is_drawn}
+use Rattle.network_model.specs.declared.network.Network.{Network}
+use Rattle.network_model.specs.declared.network.Demand.{Demand}
+use Rattle.network_model.specs.declared.network.Demand.TheVariants.{Nobody, Trace, Drawn}
+use Rattle.network_model.specs.Nodes.{node_at, greatest, top_of, IsReadableDemand}
+use Rattle.network_model.specs.Network.{is_drawn}
 use Rattle.node_state.specs.Handed.{Handed}
 use Rattle.node_state.specs.Draws.{demand_of, own_demand, after_words, word_at, words_of, drawn_before, network_generator}
 use Rattle.node_state.specs.Table.{setting_of}

@@ -3,14 +3,14 @@ use Rattle.std.proofs.Common.{◌≡◌, ℕ, zero, suc, ◌+◌, ◌*◌, ◌<�
 use Rattle.std.proofs.lemmas.Bool.{lt-ltb}
 use Rattle.std.proofs.lemmas.List.{append-nil}
 use Rattle.std.proofs.lemmas.List.Elements.{All-append, All-cons, All-nil}
-use Rattle.decision_model.specs.declared.network.Network.{Network}
-use Rattle.decision_model.specs.declared.network.NodeSpec.{NodeSpec}
-use Rattle.decision_model.specs.Nodes.{node_at, no_node}
-use Rattle.decision_model.specs.Shape.{is_below, paths, misshapen_node}
-use Rattle.decision_model.specs.Paths.{CountsPaths, AreLaterBelow}
-use Rattle.decision_model.specs.Load.{echelon_sum}
-use Rattle.decision_model.specs.Network.{IsReadableNetwork}
-use Rattle.decision_model.specs.NetworkFacts.{later_below}
+use Rattle.network_model.specs.declared.network.Network.{Network}
+use Rattle.network_model.specs.declared.network.NodeSpec.{NodeSpec}
+use Rattle.network_model.specs.Nodes.{node_at, no_node}
+use Rattle.network_model.specs.Shape.{is_below, paths, misshapen_node}
+use Rattle.network_model.specs.Paths.{CountsPaths, AreLaterBelow}
+use Rattle.network_model.specs.Load.{echelon_sum}
+use Rattle.network_model.specs.Network.{IsReadableNetwork}
+use Rattle.network_model.specs.NetworkFacts.{later_below}
 use Rattle.network_sim.specs.Machine.{sum_at, IsEchelonOf}
 
 -- the places of node k and of the nodes below it, among the first j

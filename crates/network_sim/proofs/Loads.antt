@@ -5,15 +5,15 @@ use Rattle.node_state.specs.Totals.{Setting, spec_at, before, claims_of, claims_
 use Rattle.network_sim.specs.Windows.{IsRunning}
 use Rattle.network_sim.specs.Claims.{AllBelow, below_append, below_total}
 use Rattle.network_sim.specs.Runs.{orders_up}
-use Rattle.decision_model.specs.declared.network.Link.{Link}
+use Rattle.network_model.specs.declared.network.Link.{Link}
 use Rattle.node_state.specs.Orders.{order_of, house_of}
 use Rattle.node_state.specs.Peaks.{order_within}
 use Rattle.network_sim.specs.Simulated.{IsFed}
-use Rattle.decision_model.specs.Nodes.{peak_of, top_of, is_from, is_echelon}
-use Rattle.decision_model.specs.Shape.{is_below}
-use Rattle.decision_model.specs.declared.network.Rule.{Rule}
-use Rattle.decision_model.specs.declared.network.Rule.TheVariants.{Base, MinMax, Lot, Echelon, House}
-use Rattle.decision_model.specs.Load.{echelon_sum, own_load, need_most, order_limit, order_most as most_of}
+use Rattle.network_model.specs.Nodes.{peak_of, top_of, is_from, is_echelon}
+use Rattle.network_model.specs.Shape.{is_below}
+use Rattle.network_model.specs.declared.network.Rule.{Rule}
+use Rattle.network_model.specs.declared.network.Rule.TheVariants.{Base, MinMax, Lot, Echelon, House}
+use Rattle.network_model.specs.Load.{echelon_sum, own_load, need_most, order_limit, order_most as most_of}
 use Rattle.network_sim.proofs.Ruled.{plain_order, plain_limit}
 
 below_either : (b : Bool) (x y : ℕ) (xs ys : List ℕ) → x ≤ y → AllBelow xs ys → AllBelow (cond b (x ∷ xs) xs) (cond b (y ∷ ys) ys)

@@ -1,7 +1,7 @@
 -- Demands of an example's own: the first node's customers ask for two units in period 1 and for three later, the second node has none.
 use Rattle.std.proofs.Common.{◌≡◌, ℕ, zero, suc, ◌≤◌, List, [], ◌∷◌, length, sym, refl, cond, nat_lt, get_or, arith}
-use Rattle.decision_model.specs.declared.network.Network.{Network}
-use Rattle.decision_model.specs.Nodes.{node_at, top_of}
+use Rattle.network_model.specs.declared.network.Network.{Network}
+use Rattle.network_model.specs.Nodes.{node_at, top_of}
 use Rattle.node_state.specs.Handed.{Handed}
 use Rattle.node_state.specs.Totals.{Setting}
 use Rattle.network_sim.specs.Simulated.{AreDemands}

@@ -14,7 +14,7 @@ use Rattle.node_state.specs.Sound.{length-map_of}
 use Rattle.network_sim.proofs.Phases.{seen_phase, ordered_phase}
 use Rattle.network_sim.specs.Runs.{steady, orders_up}
 use Rattle.network_sim.proofs.Loads.{orders_most, noted_most}
-use Rattle.decision_model.specs.Nodes.{no_link}
+use Rattle.network_model.specs.Nodes.{no_link}
 use Rattle.network_sim.specs.Simulated.{IsFed}
 use Rattle.network_sim.proofs.Lists.{map_at}
 use Rattle.network_sim.specs.TableRun.{map_same}

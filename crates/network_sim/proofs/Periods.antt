@@ -1,12 +1,12 @@
 -- Both passes of a period, over what a simulator knows.
-use Rattle.std.proofs.Common.{◌≡◌, ℕ, zero, suc, ◌+◌, ◌^◌, ◌<◌, ◌≤◌, ◌-◌, pos, ◌-ℤ◌, Bool, true, cond, nat_lt, List, length, ◌⊎◌, inl, inr, slice_index, refl, sym, ◌∙◌, ap, subst, arith, get_or}
+use Rattle.std.proofs.Common.{◌≡◌, ℕ, zero, suc, ◌+◌, ◌^◌, ◌<◌, ◌≤◌, ◌-◌, pos, ◌-ℤ◌, Bool, true, false, cond, nat_lt, List, length, ◌⊎◌, inl, inr, slice_index, refl, sym, ◌∙◌, ap, subst, arith, get_or}
 use Rattle.std.proofs.Math.ListN.{set}
-use Rattle.decision_model.specs.Nodes.{is_echelon}
-use Rattle.decision_model.specs.Load.{echelon_sum, own_load, need_most}
-use Rattle.decision_model.specs.Shape.{is_below}
+use Rattle.network_model.specs.Nodes.{is_echelon}
+use Rattle.network_model.specs.Load.{echelon_sum, own_load, need_most}
+use Rattle.network_model.specs.Shape.{is_below}
 use Rattle.node_state.specs.Holdings.{Holding}
 use Rattle.std.proofs.lemmas.Bool.{cases_lt, lt-ltb, le-ltb}
-use Rattle.decision_model.specs.declared.network.Rule.TheVariants.{House}
+use Rattle.network_model.specs.declared.network.Rule.TheVariants.{House}
 use Rattle.node_state.specs.Handed.{Handed, rule_at}
 use Rattle.node_state.specs.Totals.{Setting, spec_at, seen, demanded, position, orders_paused, receipts_paused, shipments_paused, ask, asks, answer, order_by, IsRun}
 use Rattle.node_state.specs.Table.{orders_of_run, served_of_run}
@@ -17,7 +17,7 @@ use Rattle.network_sim.specs.declared.station.Station.{Station}
 use Rattle.network_sim.specs.declared.pauses.Paused.{Paused}
 use Rattle.network_sim.specs.Machine.{node, station, order_at, callers_at, flag_at, sum_at, position_of, noted_node, ordered_node, ask_of, replies_of, CanOrder, IsInReach, after_orders}
 use Rattle.network_sim.specs.Supply.{supplied_node, supply_down, CanSupplyDown, suppliers_at}
-use Rattle.network_sim.specs.Houses.{over_of, first_over, over_by, period_over, HasAnswered, HaveAnswered}
+use Rattle.network_sim.specs.Houses.{is_named, over_of, first_over, over_by, period_over, HasAnswered, HaveAnswered}
 use Rattle.network_sim.specs.Asks.{Pass, asked_in, rule_in, over_in, HasReplied, HaveReplied, HaveRules}
 use Rattle.network_sim.specs.Simulated.{IsReady, Holds}
 use Rattle.network_sim.proofs.Ruled.{order_same, over_same, plain_limit, echelon_plain}
@@ -192,8 +192,14 @@ module _ (s : Setting) (t : ℕ) (nodes : List Holding) (known : List Station) (
   answered_upto i new h = record {
     all = h.all ∙ ready.fit.answered.all;
     each = λ k index cap lt e. by k index cap lt e (sym (sym e ∙ sym (ready.stations.each k lt).rule)) (cases_lt k i);
+    unnamed = λ index none. h.unnamed index (λ k cap lt e. no_node index k cap none (let b = ready.holds.all in omega arith) e) ∙ ready.fit.answered.unnamed index none;
   }
     where
+      no_node : (index k cap : ℕ) → is_named s.network.nodes index (length s.network.nodes) ≡ false → k < length s.network.nodes → rule_in pass k ≡ House index cap → ⊥
+      no_node index k cap none lt e =
+          let named = named_before s.network.nodes index cap k (length s.network.nodes) lt (sym (ready.stations.each k lt).rule ∙ e) in
+          cc
+
       by : (k index cap : ℕ) → k < length s.network.nodes → (spec_at s k).rule ≡ House index cap → rule_in pass k ≡ House index cap → (k < i) ⊎ (i ≤ k) →
           HasAnswered (rule_at s.handed index) (rule_at new index) (asks s (orders_of_run s) k (cond (nat_lt k i) (suc t) t))
       by k index cap lt e f (inl less) =

@@ -8,7 +8,7 @@ use Rattle.node_state.specs.Stands.{gain, window, held, less, leg_at, leg_ordere
 use Rattle.network_sim.specs.Windows.{gained, before_up, first_is, window_next}
 use Rattle.network_sim.specs.Claims.{AllBelow, below_at, below_chain, held_more, less_total, held_served, held_unsent, left_is}
 use Rattle.network_sim.specs.Steady.{IsSteady, IsSteadyLeg, received_most, raw_least, made_up}
-use Rattle.decision_model.specs.declared.network.Link.{Link}
+use Rattle.network_model.specs.declared.network.Link.{Link}
 
 pub map_map_same : {X Y Z : Type 0} (f : Y → Z) (g : X → Y) (h : X → Z) (xs : List X) → All (λ x. f (g x) ≡ h x) xs → map f (map g xs) ≡ map h xs
 map_map_same f g h [] p = refl

@@ -1,10 +1,10 @@
 -- What a simulator holds once it has run a period.
 use Rattle.std.proofs.Common.{◌≡◌, ℕ, zero, suc, ◌+◌, ◌-◌, ◌*◌, ◌^◌, ◌<◌, ◌≤◌, List, [], ◌∷◌, length, slice_index, sym, ◌∙◌, ap, subst, arith, get_or, ◌⊎◌, inl, inr}
 use Rattle.std.proofs.lemmas.Bool.{cases_lt}
-use Rattle.decision_model.specs.declared.network.NodeSpec.{NodeSpec}
-use Rattle.decision_model.specs.Nodes.{top_of}
-use Rattle.decision_model.specs.Pauses.{is_paused}
-use Rattle.decision_model.specs.declared.network.Pause.TheVariants.{Orders, Shipments, Receipts}
+use Rattle.network_model.specs.declared.network.NodeSpec.{NodeSpec}
+use Rattle.network_model.specs.Nodes.{top_of}
+use Rattle.network_model.specs.Pauses.{is_paused}
+use Rattle.network_model.specs.declared.network.Pause.TheVariants.{Orders, Shipments, Receipts}
 use Rattle.node_state.specs.Handed.{Handed}
 use Rattle.node_state.specs.Holdings.{Holding, total_due}
 use Rattle.node_state.specs.Totals.{Setting, Line, spec_at, line, IsRun}

@@ -1,8 +1,8 @@
 -- The first node that the rules of the caller's own don't fit.
 use Rattle.std.proofs.Common.{◌≡◌, ℕ, zero, suc, ◌+◌, ◌-◌, ◌<◌, ◌≤◌, ◌⊎◌, inl, inr, Bool, true, false, ◌||◌, List, Option, Some, None, refl, sym, ◌∙◌, ap, subst, arith, add-one}
 use Rattle.std.proofs.lemmas.Bool.{cases_lt}
-use Rattle.decision_model.specs.declared.network.NodeSpec.{NodeSpec}
-use Rattle.decision_model.specs.Nodes.{node_at}
+use Rattle.network_model.specs.declared.network.NodeSpec.{NodeSpec}
+use Rattle.network_model.specs.Nodes.{node_at}
 use Rattle.node_state.specs.Handed.{Handed}
 use Rattle.network_sim.specs.declared.errors.SimErr.{SimErr}
 use Rattle.network_sim.specs.Houses.{or_else, is_house, is_named, rule_refusal, refusal_before}

@@ -2,8 +2,8 @@
 use Rattle.std.proofs.Common.{◌≡◌, ◌≢◌, ◌⊎◌, inl, inr, ℕ, zero, suc, ◌+◌, ◌-◌, ◌<◌, ◌≤◌, Bool, true, false, nat_lt, List, length, slice_index, Option, Some, None, if◌then◌else◌, refl, sym, ◌∙◌, ap, subst, arith, add-one, get_or}
 use Rattle.std.proofs.Math.ListN.{set}
 use Rattle.std.proofs.lemmas.Bool.{cases_lt}
-use Rattle.decision_model.specs.declared.network.Rule.{Rule}
-use Rattle.decision_model.specs.declared.network.Rule.TheVariants.{Base, MinMax, Lot, Echelon, House}
+use Rattle.network_model.specs.declared.network.Rule.{Rule}
+use Rattle.network_model.specs.declared.network.Rule.TheVariants.{Base, MinMax, Lot, Echelon, House}
 use Rattle.node_state.specs.Holdings.{Holding}
 use Rattle.node_state.specs.Handed.{Ask, Handed, rule_at, reply_to}
 use Rattle.network_sim.specs.declared.station.Station.{Station}
@@ -99,6 +99,7 @@ module _ (p : Pass) (n : ℕ) (has : HaveRules p n) (i : ℕ) (lt : i < n) (node
         all = here.all ∙ h.replied.all;
         done = λ k index cap less in_n e. by k index cap in_n e (cases_lt k i) less;
         left = λ k index cap more in_n e. other_node k index cap in_n (λ eq. absurd (let a = eq in omega arith)) e ∙ h.replied.left k index cap (omega arith) in_n e;
+        unnamed = λ index none. here.others index (λ most f. none i most lt f) ∙ h.replied.unnamed index none;
       }
         where
           by : (k index cap : ℕ) → k < n → rule_in p k ≡ House index cap → (k < i) ⊎ (i ≤ k) → k < suc i → HasReplied (rule_at p.handed index) (rule_at new index) (asked_in p k)

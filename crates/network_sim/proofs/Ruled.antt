@@ -1,10 +1,10 @@
 -- Orders by the rules of an instance, and by those of the caller's own.
 use Rattle.std.proofs.Common.{◌≡◌, ℕ, suc, ◌+◌, ◌<◌, ◌≤◌, ℤ, min, cond, List, Some, None, Bool, true, false, nat_lt, refl, ap, ◌∙◌, sym, arith}
 use Rattle.std.proofs.lemmas.Bool.{ltb-true, lt-ltb}
-use Rattle.decision_model.specs.declared.network.Rule.{Rule}
-use Rattle.decision_model.specs.declared.network.Rule.TheVariants.{Base, MinMax, Lot, Echelon, House}
-use Rattle.decision_model.specs.Nodes.{peak_of, is_echelon}
-use Rattle.decision_model.specs.Load.{order_most}
+use Rattle.network_model.specs.declared.network.Rule.{Rule}
+use Rattle.network_model.specs.declared.network.Rule.TheVariants.{Base, MinMax, Lot, Echelon, House}
+use Rattle.network_model.specs.Nodes.{peak_of, is_echelon}
+use Rattle.network_model.specs.Load.{order_most}
 use Rattle.node_state.specs.Orders.{order_of, house_of}
 use Rattle.node_state.specs.Totals.{order_by}
 use Rattle.network_sim.specs.Houses.{over_of}

@@ -9,8 +9,8 @@ use Rattle.node_state.specs.Stands.{held, window, leg_at, at_rest}
 use Rattle.network_sim.specs.Windows.{window_start, before-zero}
 use Rattle.network_sim.specs.Steady.{IsSteadyLeg}
 use Rattle.network_sim.specs.Runs.{steady_legs}
-use Rattle.decision_model.specs.declared.network.Link.{Link}
-use Rattle.decision_model.specs.Nodes.{is_from}
+use Rattle.network_model.specs.declared.network.Link.{Link}
+use Rattle.network_model.specs.Nodes.{is_from}
 
 zeros_at : (n k : ℕ) → get_or (zeros n) k 0 ≡ 0
 zeros_at zero k = refl

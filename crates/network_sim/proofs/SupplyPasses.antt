@@ -18,8 +18,8 @@ use Rattle.network_sim.proofs.Phases.{leg_in_is, made_phase, served_phase}
 use Rattle.network_sim.proofs.Lists.{map_at}
 use Rattle.network_sim.proofs.Passes.{held_length}
 use Rattle.network_sim.specs.Runs.{steady, steady_legs, orders_up, slot_at}
-use Rattle.decision_model.specs.declared.network.Link.{Link}
-use Rattle.decision_model.specs.Nodes.{no_link}
+use Rattle.network_model.specs.declared.network.Link.{Link}
+use Rattle.network_model.specs.Nodes.{no_link}
 
 same_lists : (xs ys : List ℕ) → length xs ≡ length ys → ((k : ℕ) → k < length xs → get_or xs k 0 ≡ get_or ys k 0) → xs ≡ ys
 same_lists [] [] e h = refl

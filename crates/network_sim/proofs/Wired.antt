@@ -4,12 +4,12 @@ use Rattle.std.specs.List.{list_all}
 use Rattle.std.proofs.lemmas.Bool.{cases_lt, eqb-true, eqb-false, ltb-true}
 use Rattle.std.proofs.lemmas.List.{map-append, length-map, append-nil, append_assoc, length-set, get_or-set_same, get_or-set_other}
 use Rattle.std.proofs.lemmas.List.Elements.{All-append, All-cons, All-nil, All-tail, All-head}
-use Rattle.decision_model.specs.declared.network.Network.{Network}
-use Rattle.decision_model.specs.declared.network.NodeSpec.{NodeSpec}
-use Rattle.decision_model.specs.declared.network.Link.{Link}
-use Rattle.decision_model.specs.Nodes.{node_at, no_node, no_link, is_from}
-use Rattle.decision_model.specs.Shape.{is_later, is_none_from, are_distinct, misshapen_node}
-use Rattle.decision_model.specs.NetworkFacts.{shaped_at, IsShapedNode, parts_shaped}
+use Rattle.network_model.specs.declared.network.Network.{Network}
+use Rattle.network_model.specs.declared.network.NodeSpec.{NodeSpec}
+use Rattle.network_model.specs.declared.network.Link.{Link}
+use Rattle.network_model.specs.Nodes.{node_at, no_node, no_link, is_from}
+use Rattle.network_model.specs.Shape.{is_later, is_none_from, are_distinct, misshapen_node}
+use Rattle.network_model.specs.NetworkFacts.{shaped_at, IsShapedNode, parts_shaped}
 use Rattle.node_state.specs.Sound.{whole}
 use Rattle.node_state.specs.Totals.{before, claims_of, claims_upto, slot}
 use Rattle.network_sim.specs.declared.links.Caller.{Caller}

@@ -1,15 +1,15 @@
 -- Worked rows, by the definitions.
 use Rattle.std.proofs.Common.{◌≡◌, map, ℕ, ◌+◌, ◌*◌, min, max, pos, ◌-ℤ◌, [], ◌∷◌, ◌++◌, List, Option, Some, None, refl}
-use Rattle.decision_model.specs.declared.network.Network.{Network}
-use Rattle.decision_model.specs.declared.network.NodeSpec.{NodeSpec}
-use Rattle.decision_model.specs.declared.network.Link.{Link}
-use Rattle.decision_model.specs.declared.network.Rule.{Rule}
-use Rattle.decision_model.specs.declared.network.Rule.TheVariants.{Base, MinMax, Lot, Echelon, House}
-use Rattle.decision_model.specs.declared.network.Demand.{Demand}
-use Rattle.decision_model.specs.declared.network.Demand.TheVariants.{Nobody, Trace, Drawn}
-use Rattle.decision_model.specs.declared.network.Pause.{Pause}
-use Rattle.decision_model.specs.declared.network.Pause.TheVariants.{Orders, Shipments, Receipts}
-use Rattle.decision_model.specs.Positions.{above_zero}
+use Rattle.network_model.specs.declared.network.Network.{Network}
+use Rattle.network_model.specs.declared.network.NodeSpec.{NodeSpec}
+use Rattle.network_model.specs.declared.network.Link.{Link}
+use Rattle.network_model.specs.declared.network.Rule.{Rule}
+use Rattle.network_model.specs.declared.network.Rule.TheVariants.{Base, MinMax, Lot, Echelon, House}
+use Rattle.network_model.specs.declared.network.Demand.{Demand}
+use Rattle.network_model.specs.declared.network.Demand.TheVariants.{Nobody, Trace, Drawn}
+use Rattle.network_model.specs.declared.network.Pause.{Pause}
+use Rattle.network_model.specs.declared.network.Pause.TheVariants.{Orders, Shipments, Receipts}
+use Rattle.model_terms.specs.Positions.{above_zero}
 use Rattle.demand_law.specs.Picked.{picked}
 use Rattle.node_state.specs.Handed.{Ask, Handed}
 use Rattle.node_state.specs.Totals.{Line}

@@ -1,8 +1,8 @@
 -- The first pass of a period with rules of the caller's own: what each is asked, and where an answer ends the pass.
 use Rattle.std.specs.Prelude.{◌≡◌, ℕ, ◌<◌, ◌≤◌, Bool, List, ◌∷◌, length, slice_index, Option, Some, None}
 use Rattle.std.proofs.Common.{get_or}
-use Rattle.decision_model.specs.declared.network.Rule.{Rule}
-use Rattle.decision_model.specs.declared.network.Rule.TheVariants.{House}
+use Rattle.network_model.specs.declared.network.Rule.{Rule}
+use Rattle.network_model.specs.declared.network.Rule.TheVariants.{House}
 use Rattle.node_state.specs.Holdings.{Holding}
 use Rattle.node_state.specs.Handed.{Ask, Handed, rule_at, reply_to}
 use Rattle.network_sim.specs.declared.station.Station.{Station}
@@ -48,11 +48,12 @@ pub record IsAsked (rule : Rule) (before now : List Handed) (a : Ask) : Type 0 w
   pub replied : (index cap : ℕ) → rule ≡ House index cap → HasReplied (rule_at before index) (rule_at now index) a
   pub others : (k : ℕ) → ((cap : ℕ) → rule ≡ House k cap → ⊥) → rule_at now k ≡ rule_at before k
 
--- the rules of the first i nodes have answered, and those of the other nodes below n stand as they were
+-- the rules of the first i nodes have answered; those of the other nodes below n stand as they were, and those of no node
 pub record HaveReplied (p : Pass) (n i : ℕ) (now : List Handed) : Type 0 where
   pub all : length now ≡ length p.handed
   pub done : (k index cap : ℕ) → k < i → k < n → rule_in p k ≡ House index cap → HasReplied (rule_at p.handed index) (rule_at now index) (asked_in p k)
   pub left : (k index cap : ℕ) → i ≤ k → k < n → rule_in p k ≡ House index cap → rule_at now index ≡ rule_at p.handed index
+  pub unnamed : (index : ℕ) → ((k cap : ℕ) → k < n → rule_in p k ≡ House index cap → ⊥) → rule_at now index ≡ rule_at p.handed index
 
 -- the first i nodes have ordered, and no answer of their rules was above its cap
 pub record HavePassed (p : Pass) (n i : ℕ) (nodes : List Holding) (now : List Handed) : Type 0 where

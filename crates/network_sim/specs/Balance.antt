@@ -8,7 +8,7 @@ use Rattle.node_state.specs.Stands.{held, leg_at, at_rest, served_before}
 use Rattle.network_sim.specs.Windows.{window_sum}
 use Rattle.network_sim.specs.Claims.{AllBelow}
 use Rattle.network_sim.specs.Steady.{IsSteady, IsSteadyLeg, received_most, least_most}
-use Rattle.decision_model.specs.declared.network.Link.{Link}
+use Rattle.network_model.specs.declared.network.Link.{Link}
 
 module _ (setting : Setting) (O : ℕ → ℕ → ℕ) (V : ℕ → ℕ → List ℕ) (i : ℕ) (s : IsSteady setting O V i) (t : ℕ) where
   -- initial + made = stock + all units served

@@ -4,8 +4,8 @@ use Rattle.node_state.specs.Totals.{Setting, spec_at, before, claims_of, claims_
 use Rattle.node_state.specs.Holdings.{Claim, claims_served, left_over, unsent, added, total, zeros}
 use Rattle.node_state.specs.Stands.{held, less}
 use Rattle.network_sim.specs.Windows.{IsRunning, before_up}
-use Rattle.decision_model.specs.declared.network.Link.{Link}
-use Rattle.decision_model.specs.Nodes.{is_from}
+use Rattle.network_model.specs.declared.network.Link.{Link}
+use Rattle.network_model.specs.Nodes.{is_from}
 
 -- lists of one length, the first nowhere above the second
 abbrev pub AllBelow : List ℕ → List ℕ → Type 0

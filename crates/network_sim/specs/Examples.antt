@@ -1,6 +1,6 @@
 -- A rule of the caller's own for examples, and simulators in mid-run.
 use Rattle.std.specs.Prelude.{ℕ, ◌+◌, List, [], ◌∷◌, cond, nat_lt}
-use Rattle.decision_model.specs.declared.network.Network.{Network}
+use Rattle.network_model.specs.declared.network.Network.{Network}
 use Rattle.node_state.specs.Handed.{Ask, Handed}
 use Rattle.node_state.specs.Table.{setting_of}
 use Rattle.network_sim.specs.declared.sim.Sim.{Sim}

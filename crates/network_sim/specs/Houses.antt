@@ -1,9 +1,9 @@
 -- Rules of the caller's own: which lists of them a network can be run with, and the answer that ends a run.
 use Rattle.std.specs.Prelude.{◌≡◌, ℕ, zero, suc, ◌<◌, List, ◌++◌, length, Bool, false, ◌||◌, ◌==◌, cond, if◌then◌else◌, nat_le, nat_lt, Option, Some, None, ⊤}
-use Rattle.decision_model.specs.declared.network.NodeSpec.{NodeSpec}
-use Rattle.decision_model.specs.declared.network.Rule.{Rule}
-use Rattle.decision_model.specs.declared.network.Rule.TheVariants.{Base, MinMax, Lot, Echelon, House}
-use Rattle.decision_model.specs.Nodes.{node_at}
+use Rattle.network_model.specs.declared.network.NodeSpec.{NodeSpec}
+use Rattle.network_model.specs.declared.network.Rule.{Rule}
+use Rattle.network_model.specs.declared.network.Rule.TheVariants.{Base, MinMax, Lot, Echelon, House}
+use Rattle.network_model.specs.Nodes.{node_at}
 use Rattle.node_state.specs.Handed.{Ask, Handed, rule_at}
 use Rattle.node_state.specs.Totals.{Setting, spec_at, asks, answer}
 use Rattle.node_state.specs.Table.{orders_of_run}
@@ -86,8 +86,10 @@ pub record HasAnswered (before now : Handed) (asked : List Ask) : Type 0 where
   pub each : length answers ≡ length asked
   pub rest : (more : List Ask) → before.replies (asked ++ more) ≡ answers ++ now.replies more
 
--- the rules of the first i nodes have answered in period suc t, one ask each, and those of the others not yet
+-- the rules of the first i nodes have answered in period suc t, one ask each, and those of the others not yet; a rule that no
+-- node names is never asked
 pub record HaveAnswered (setting : Setting) (t i : ℕ) (now : List Handed) : Type 0 where
   pub all : length now ≡ length setting.handed
   pub each : (k index cap : ℕ) → k < length setting.network.nodes → (spec_at setting k).rule ≡ House index cap →
       HasAnswered (rule_at setting.handed index) (rule_at now index) (asks setting (orders_of_run setting) k (cond (nat_lt k i) (suc t) t))
+  pub unnamed : (index : ℕ) → is_named setting.network.nodes index (length setting.network.nodes) ≡ false → rule_at now index ≡ rule_at setting.handed index

@@ -2,12 +2,12 @@
 use Rattle.std.specs.Prelude.{◌≡◌, ℕ, zero, suc, ◌+◌, ◌-◌, ◌*◌, ◌^◌, ◌<◌, ◌≤◌, ℤ, pos, ◌-ℤ◌, Bool, true, false, cond, List, [], ◌∷◌, length, map, All}
 use Rattle.std.proofs.Common.{get_or}
 use Rattle.std.proofs.Math.ListN.{set}
-use Rattle.decision_model.specs.declared.network.NodeSpec.{NodeSpec}
-use Rattle.decision_model.specs.declared.network.Rule.TheVariants.{Base}
-use Rattle.decision_model.specs.declared.network.Demand.TheVariants.{Nobody}
-use Rattle.decision_model.specs.Nodes.{node_at, no_link, is_echelon}
-use Rattle.decision_model.specs.Network.{is_drawn}
-use Rattle.decision_model.specs.Load.{echelon_sum}
+use Rattle.network_model.specs.declared.network.NodeSpec.{NodeSpec}
+use Rattle.network_model.specs.declared.network.Rule.TheVariants.{Base}
+use Rattle.network_model.specs.declared.network.Demand.TheVariants.{Nobody}
+use Rattle.network_model.specs.Nodes.{node_at, no_link, is_echelon}
+use Rattle.network_model.specs.Network.{is_drawn}
+use Rattle.network_model.specs.Load.{echelon_sum}
 use Rattle.node_state.specs.Holdings.{Holding, local_position, no_holding, no_leg, begun, with_claims, placed, total, total_due}
 use Rattle.node_state.specs.Handed.{Ask, Handed, rule_at, reply_to}
 use Rattle.node_state.specs.Totals.{Line, before, claims_on, order_by}

@@ -8,8 +8,8 @@ use Rattle.node_state.specs.Totals.{Setting, spec_at, before, slot, shipped_from
 use Rattle.network_sim.specs.Windows.{IsRunning, before_up}
 use Rattle.network_sim.specs.Claims.{AllBelow, below_same, below_zeros, below_chain, below_at, claims_up, serve_below, serve_up, serve_total}
 use Rattle.network_sim.specs.Steady.{IsSteady, IsSteadyLeg, made_up}
-use Rattle.decision_model.specs.declared.network.Link.{Link}
-use Rattle.decision_model.specs.Nodes.{is_from}
+use Rattle.network_model.specs.declared.network.Link.{Link}
+use Rattle.network_model.specs.Nodes.{is_from}
 
 pub at_prefix : (xs ys : List ℕ) (k : ℕ) → k < length xs → get_or (xs ++ ys) k 0 ≡ get_or xs k 0
 at_prefix [] ys k lt = absurd (omega arith)

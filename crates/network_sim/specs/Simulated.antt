@@ -1,10 +1,10 @@
 -- What a simulator knows and holds, as functions of a network and of what its customers demand.
 use Rattle.std.specs.Prelude.{◌≡◌, ℕ, suc, ◌*◌, ◌^◌, ◌<◌, ◌≤◌, List, length, map, Some, None, IsSome}
 use Rattle.std.proofs.Common.{get_or}
-use Rattle.decision_model.specs.declared.network.Network.{Network}
-use Rattle.decision_model.specs.declared.network.Pause.{Pause}
-use Rattle.decision_model.specs.Pauses.{is_paused}
-use Rattle.decision_model.specs.Nodes.{node_at, top_of, IsReadableDemand}
+use Rattle.network_model.specs.declared.network.Network.{Network}
+use Rattle.network_model.specs.declared.network.Pause.{Pause}
+use Rattle.network_model.specs.Pauses.{is_paused}
+use Rattle.network_model.specs.Nodes.{node_at, top_of, IsReadableDemand}
 use Rattle.node_state.specs.Holdings.{Holding}
 use Rattle.node_state.specs.Totals.{Setting, Line, spec_at, demanded, orders_paused, receipts_paused, shipments_paused, IsShaped, IsLoaded}
 use Rattle.node_state.specs.Table.{orders_of_run, served_of_run, setting_of, total_cost}

@@ -6,7 +6,7 @@ use Rattle.node_state.specs.Holdings.{Leg, least_raw, least_raw_from, total}
 use Rattle.node_state.specs.Totals.{Setting, spec_at, before, shipped, received, made, least, least_from, claims_on, all_claims, receipts_paused}
 use Rattle.network_sim.specs.Windows.{IsRunning, before_up}
 use Rattle.network_sim.specs.Claims.{AllBelow}
-use Rattle.decision_model.specs.declared.network.Link.{Link}
+use Rattle.network_model.specs.declared.network.Link.{Link}
 
 -- what comes on a link never passes what was ordered on it
 pub record IsSteadyLeg (setting : Setting) (O : ℕ → ℕ → ℕ) (V : ℕ → ℕ → List ℕ) (i : ℕ) (l : Link) : Type 0 where

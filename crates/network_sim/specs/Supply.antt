@@ -2,8 +2,8 @@
 use Rattle.std.specs.Prelude.{◌≡◌, ℕ, zero, suc, ◌<◌, ◌≤◌, Bool, List, [], ◌∷◌, length, Option, Some, None, ⊤}
 use Rattle.std.proofs.Common.{get_or}
 use Rattle.std.proofs.Math.ListN.{set}
-use Rattle.decision_model.specs.declared.network.NodeSpec.{NodeSpec}
-use Rattle.decision_model.specs.Nodes.{node_at, no_link}
+use Rattle.network_model.specs.declared.network.NodeSpec.{NodeSpec}
+use Rattle.network_model.specs.Nodes.{node_at, no_link}
 use Rattle.node_state.specs.Holdings.{Holding, Leg, no_leg, no_claim, leg_received, finished, served}
 use Rattle.node_state.specs.Totals.{slot}
 use Rattle.network_sim.specs.declared.links.Supplier.{Supplier}

@@ -7,11 +7,11 @@ use Rattle.node_state.specs.Holdings.{total, zeros}
 use Rattle.node_state.specs.Totals.{Setting, spec_at, before, demanded, slot, claims_of, claims_upto, claims_on, all_claims, orders_next, position, asks, order_by, shipped, shipped_from, received, made, least, serve, served_next, IsRun, IsSource, IsShaped, orders_paused, receipts_paused, shipments_paused, line}
 use Rattle.node_state.specs.Table.{Period, nothing, orders_at, served_at, orders_of_first, empties, served_from, first_served, table, period_at, orders_of_run, served_of_run, row, lines_from}
 use Rattle.network_sim.specs.Runs.{length_upto, at_prefix, at_end}
-use Rattle.decision_model.specs.declared.network.Link.{Link}
-use Rattle.decision_model.specs.declared.network.NodeSpec.{NodeSpec}
+use Rattle.network_model.specs.declared.network.Link.{Link}
+use Rattle.network_model.specs.declared.network.NodeSpec.{NodeSpec}
 use Rattle.node_state.specs.Handed.{rule_at}
-use Rattle.decision_model.specs.Nodes.{is_from, is_echelon}
-use Rattle.decision_model.specs.Load.{echelon_sum}
+use Rattle.network_model.specs.Nodes.{is_from, is_echelon}
+use Rattle.network_model.specs.Load.{echelon_sum}
 
 -- functions that agree on each entry
 pub map_same : {X Y : Type 0} (f g : X → Y) (xs : List X) → All (λ x. f x ≡ g x) xs → map f xs ≡ map g xs

@@ -2,14 +2,14 @@
 use Rattle.std.proofs.Common.{◌≡◌, ℕ, zero, suc, ◌+◌, ◌*◌, ◌<◌, Bool, true, false, not, ◌&&◌, ◌||◌, ◌==◌, nat_lt, cond, List, [], ◌∷◌, ◌++◌, length, Option, Some, None, refl, sym, ◌∙◌, ap, arith, get_or, length-append}
 use Rattle.std.specs.List.{list_all, list_any}
 use Rattle.std.proofs.lemmas.Bool.{eqb-true, eq-eqb, ltb-true}
-use Rattle.decision_model.specs.declared.network.Network.{Network}
-use Rattle.decision_model.specs.declared.network.NodeSpec.{NodeSpec}
-use Rattle.decision_model.specs.declared.network.Link.{Link}
-use Rattle.decision_model.specs.Nodes.{node_at, is_from, top_of}
-use Rattle.decision_model.specs.Shape.{is_later, is_none_from, are_distinct, misshapen_node}
-use Rattle.decision_model.specs.Load.{claimed, reaching, orders_most, order_limit}
-use Rattle.decision_model.specs.Network.{IsValidNetwork}
-use Rattle.decision_model.specs.NetworkFacts.{shaped_at, IsShapedNode, parts_shaped, light_at}
+use Rattle.network_model.specs.declared.network.Network.{Network}
+use Rattle.network_model.specs.declared.network.NodeSpec.{NodeSpec}
+use Rattle.network_model.specs.declared.network.Link.{Link}
+use Rattle.network_model.specs.Nodes.{node_at, is_from, top_of}
+use Rattle.network_model.specs.Shape.{is_later, is_none_from, are_distinct, misshapen_node}
+use Rattle.network_model.specs.Load.{claimed, reaching, orders_most, order_limit}
+use Rattle.network_model.specs.Network.{IsValidNetwork}
+use Rattle.network_model.specs.NetworkFacts.{shaped_at, IsShapedNode, parts_shaped, light_at}
 use Rattle.node_state.specs.Holdings.{total}
 use Rattle.node_state.specs.Totals.{before, claims_of, claims_upto, IsSource, IsShaped, IsLoaded}
 

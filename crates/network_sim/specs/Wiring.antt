@@ -2,9 +2,9 @@
 use Rattle.std.specs.Prelude.{◌≡◌, ℕ, zero, suc, ◌<◌, cond, List, [], ◌∷◌, ◌++◌, length, map, Option, Some, None, ⊤}
 use Rattle.std.proofs.Common.{get_or}
 use Rattle.std.proofs.Math.ListN.{set}
-use Rattle.decision_model.specs.declared.network.NodeSpec.{NodeSpec}
-use Rattle.decision_model.specs.declared.network.Link.{Link}
-use Rattle.decision_model.specs.Nodes.{node_at, is_from}
+use Rattle.network_model.specs.declared.network.NodeSpec.{NodeSpec}
+use Rattle.network_model.specs.declared.network.Link.{Link}
+use Rattle.network_model.specs.Nodes.{node_at, is_from}
 use Rattle.network_sim.specs.declared.links.Caller.{Caller}
 use Rattle.network_sim.specs.declared.links.Supplier.{Supplier}
 use Rattle.network_sim.specs.Machine.{AreCallersOf}

@@ -1,14 +1,14 @@
 // What customers demand in a period, as a network states it or as it is drawn.
 ghost use Rattle.std.specs.Prelude.{◌≡◌, ℕ, ◌<◌, ◌≤◌, List, length, sum, cond, slice_index};
 ghost use Rattle.rand_pcg.specs.Pcg.{pcg32};
-ghost use Rattle.decision_model.specs.declared.network.Demand.TheVariants.{Drawn};
-ghost use Rattle.decision_model.specs.Nodes.{top_of};
-ghost use Rattle.decision_model.specs.Network.{is_drawn};
+ghost use Rattle.network_model.specs.declared.network.Demand.TheVariants.{Drawn};
+ghost use Rattle.network_model.specs.Nodes.{top_of};
+ghost use Rattle.network_model.specs.Network.{is_drawn};
 ghost use Rattle.node_state.specs.Draws.{demand_of, after_words, word_at};
 ghost use Rattle.network_sim.specs.Machine.{station as station_at, drawn_in};
 
 use crate::station::Station;
-use decision_model::Demand;
+use network_model::Demand;
 use rand_core::utils::NextWord;
 use rand_pcg::Lcg64Xsh32;
 

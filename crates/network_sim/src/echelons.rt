@@ -1,10 +1,10 @@
 // The echelon of a node: the node and all nodes below it.
 ghost use Rattle.std.specs.Prelude.{◌≡◌, ℕ, ◌<◌, ◌≤◌, ◌*◌, length, None, IfOk};
-ghost use Rattle.decision_model.specs.Network.{IsReadableNetwork};
-ghost use Rattle.decision_model.specs.Shape.{misshapen_node};
+ghost use Rattle.network_model.specs.Network.{IsReadableNetwork};
+ghost use Rattle.network_model.specs.Shape.{misshapen_node};
 ghost use Rattle.network_sim.specs.Machine.{IsEchelonOf};
 
-use decision_model::{Items, Network, count_paths};
+use network_model::{Items, Network, count_paths};
 use std::alloc::{AllocError, Global};
 
 /// A node and all nodes below it.

@@ -1,4 +1,8 @@
 // Why a network can't be run, and why a run ends early.
+ghost use Rattle.std.specs.Prelude.{◌≡◌};
+
+use fraction128::Memory;
+use std::alloc::AllocError;
 use thiserror::Error;
 
 /// Why there is no simulator of a network.
@@ -16,6 +20,26 @@ pub enum SimErr {
     /// Memory was refused.
     #[error("out of memory")]
     Memory,
+}
+
+impl From<AllocError> for SimErr {
+    ghost use Rattle.network_sim.specs.declared.errors.SimErr.TheVariants.{Memory};
+
+    ghost from_gives = { λ _ e. e ≡ Memory };
+
+    fn from(_refused: AllocError) -> SimErr {
+        SimErr::Memory
+    }
+}
+
+impl From<Memory> for SimErr {
+    ghost use Rattle.network_sim.specs.declared.errors.SimErr.TheVariants.{Memory};
+
+    ghost from_gives = { λ _ e. e ≡ Memory };
+
+    fn from(_refused: Memory) -> SimErr {
+        SimErr::Memory
+    }
 }
 
 /// A rule of the caller's own answered more than its cap, which ends the run.

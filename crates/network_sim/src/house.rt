@@ -1,13 +1,13 @@
 // Rules of the caller's own: which a network can be run with, and what they answer.
 ghost use Rattle.std.specs.Prelude.{◌≡◌, ◌≢◌, ℕ, ◌^◌, ◌<◌, ◌≤◌, List, ◌∷◌, length, map, None, Some, OnOk, IfOk, IfErr};
 ghost use Rattle.std.specs.Int.RustNames.{unsigned_abs};
-ghost use Rattle.decision_model.specs.Nodes.{node_at};
+ghost use Rattle.network_model.specs.Nodes.{node_at};
 ghost use Rattle.node_state.specs.Handed.{Ask, Handed, rule_at, reply_to};
 ghost use Rattle.network_sim.specs.Houses.{is_house, is_named, rule_refusal, rules_refusal};
 ghost use Rattle.network_sim.specs.Asks.{HasReplied};
 
 use crate::errors::SimErr;
-use decision_model::{NodeSpec, Rule};
+use network_model::{NodeSpec, Rule};
 use node_state::HouseRule;
 use std::alloc::{AllocError, Global};
 

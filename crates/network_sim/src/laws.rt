@@ -1,6 +1,6 @@
 // Laws of a network's totals.
 ghost use Rattle.std.specs.Prelude.{◌≡◌, ℕ, ◌+◌, ◌-◌, ◌<◌, All, length};
-ghost use Rattle.decision_model.specs.declared.network.Link.{Link};
+ghost use Rattle.network_model.specs.declared.network.Link.{Link};
 ghost use Rattle.node_state.specs.Holdings.{total};
 ghost use Rattle.node_state.specs.Totals.{Setting, spec_at, before, stock, made, shipped, received, IsShaped};
 ghost use Rattle.node_state.specs.Table.{orders_of_run, served_of_run};

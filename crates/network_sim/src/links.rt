@@ -1,5 +1,5 @@
 // Who orders from a node, and who supplies it.
-use decision_model::Items;
+use network_model::Items;
 use std::alloc::{AllocError, Global};
 use std::marker::Model;
 

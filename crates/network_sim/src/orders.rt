@@ -1,7 +1,7 @@
 // The first pass of a period: all nodes in listed order see what comes to them, and order.
 ghost use Rattle.std.specs.Prelude.{◌≡◌, ℕ, ◌+◌, ◌*◌, ◌^◌, ◌<◌, ◌≤◌, All, true, length, map, cond, slice_set, slice_index, slice_index_or, ℤ, Some, None, OnOk, IfOk, IfErr};
 ghost use Rattle.std.specs.Int.RustNames.{unsigned_abs};
-ghost use Rattle.decision_model.specs.Nodes.{is_echelon};
+ghost use Rattle.network_model.specs.Nodes.{is_echelon};
 ghost use Rattle.node_state.specs.Holdings.{no_holding, no_leg, begun, with_claims, placed, total};
 ghost use Rattle.network_sim.specs.Machine.{node as node_at, front, fronts, AreCallers, noted_node, ordered_node, CanOrder, order_with, order_at, ask_of, callers_at, flag_at, sum_at, position_of, IsInReach, station as station_at};
 ghost use Rattle.network_sim.specs.Asks.{Pass, ordered_in, over_with, IsAsked, HasRule, HaveRules, HavePassed, IsCut};

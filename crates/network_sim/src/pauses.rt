@@ -1,7 +1,7 @@
 // What pauses at each node in a period.
 ghost use Rattle.std.specs.Prelude.{◌≡◌, ℕ, ◌<◌, ◌≤◌, ◌^◌, IfOk, length};
-ghost use Rattle.decision_model.specs.declared.network.Pause.TheVariants.{Orders, Receipts, Shipments};
-ghost use Rattle.decision_model.specs.Pauses.{is_paused};
+ghost use Rattle.network_model.specs.declared.network.Pause.TheVariants.{Orders, Receipts, Shipments};
+ghost use Rattle.network_model.specs.Pauses.{is_paused};
 ghost use Rattle.network_sim.specs.Machine.{flag_at};
 
 use disruption::Calendar;

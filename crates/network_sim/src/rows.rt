@@ -4,8 +4,8 @@ ghost use Rattle.node_state.specs.Table.{costs};
 ghost use Rattle.network_sim.specs.Machine.{node as node_at, station as station_at, no_line, line_of};
 
 use crate::station::Station;
-use decision_model::Network;
 use fraction128::Memory;
+use network_model::Network;
 use node_state::Node;
 use std::alloc::Global;
 use std::marker::Model;

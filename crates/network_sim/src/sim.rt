@@ -1,7 +1,7 @@
 // The simulator.
 ghost use Rattle.std.specs.Prelude.{◌≡◌, ◌⊎◌, ℕ, suc, ◌-◌, ◌<◌, ◌≤◌, List, IfOk, OnOk, OnErr, IfErr, Err, Some, None, is_some, length, map};
-ghost use Rattle.decision_model.specs.declared.network.Network.{Network};
-ghost use Rattle.decision_model.specs.Network.{IsValidNetwork};
+ghost use Rattle.network_model.specs.declared.network.Network.{Network};
+ghost use Rattle.network_model.specs.Network.{IsValidNetwork};
 ghost use Rattle.node_state.specs.Handed.{Handed};
 ghost use Rattle.node_state.specs.Totals.{Setting};
 ghost use Rattle.node_state.specs.Table.{row as row_of, total_cost, setting_of, network_row};
@@ -15,7 +15,7 @@ use crate::errors::{RuleOver, SimErr};
 use crate::house::{caps_of, check_rules};
 use crate::rows::Row;
 use crate::state::State;
-use decision_model::Network;
+use network_model::Network;
 use node_state::HouseRule;
 use rand_pcg::Lcg64Xsh32;
 use std::alloc::Global;
@@ -55,20 +55,14 @@ impl Sim {
         rules: Vec<Box<dyn HouseRule>>,
     ) -> Result<Sim, SimErr>
         requires { IsValidNetwork network.now }
-        ensures stands { IfOk result (λ sim. (demand : ℕ → ℕ → ℕ) → IsAfter (record { network = network.now; demand = demand; handed = map (λ b. (⟦<dyn HouseRule as HouseRule>⟧ b.vtable).meaning b.value) rules.items }) 0 sim (map meaning sim.rules.items)) }
+        ensures stands { IfOk result (λ sim. (demand : ℕ → ℕ → ℕ) → IsAfter (record { network = network.now; demand = demand; handed = map meaning rules.items }) 0 sim (map meaning sim.rules.items)) }
         ensures drawn { IfOk result (HasDrawn network.now 0) }
         ensures refused { IfErr result (IsRefusalOf (rules_refusal network.now.nodes (map meaning rules.items))) }
     {
         check_rules(network.nodes.as_slice(), &rules)?;
-        let Ok(caps) = caps_of(alloc, &rules) else {
-            return Err(SimErr::Memory);
-        };
-        let Ok(state) = State::new(alloc, network) else {
-            return Err(SimErr::Memory);
-        };
-        let Ok(drawn) = vec![in alloc; 0u32; network.nodes.as_slice().len()] else {
-            return Err(SimErr::Memory);
-        };
+        let caps = caps_of(alloc, &rules)?;
+        let state = State::new(alloc, network)?;
+        let drawn = vec![in alloc; 0u32; network.nodes.as_slice().len()]?;
         Ok(Sim {
             state,
             drawn,

@@ -1,6 +1,6 @@
 // What a simulator holds, and how a period changes it.
 ghost use Rattle.std.specs.Prelude.{◌≡◌, ℕ, suc, ◌-◌, ◌<◌, ◌≤◌, List, IfOk, length, map, None, OnOk, OnErr, IfErr};
-ghost use Rattle.decision_model.specs.Network.{IsValidNetwork};
+ghost use Rattle.network_model.specs.Network.{IsValidNetwork};
 ghost use Rattle.node_state.specs.Totals.{Setting};
 ghost use Rattle.node_state.specs.Table.{row as row_of};
 ghost use Rattle.node_state.specs.Handed.{Handed};
@@ -14,9 +14,9 @@ use crate::rows::{Row, add_demands, note_ordered, sum_costs, write_lines};
 use crate::station::Station;
 use crate::stations::{find_stations, make_nodes};
 use crate::wiring::wire;
-use decision_model::Network;
 use disruption::Calendar;
 use fraction128::Memory;
+use network_model::Network;
 use node_state::{HouseRule, Node};
 use std::alloc::Global;
 

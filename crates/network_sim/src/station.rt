@@ -1,6 +1,6 @@
 // What a simulator knows of a node from the start.
 use crate::links::{Callers, Suppliers};
-use decision_model::{Demand, Items};
+use network_model::{Demand, Items};
 use node_state::NodeRule;
 
 /// What a simulator knows of a node from the start.

@@ -1,7 +1,7 @@
 // Finds what a simulator knows of each node, and makes the nodes.
 ghost use Rattle.std.specs.Prelude.{◌≡◌, ℕ, suc, ◌<◌, ◌≤◌, IfOk, length, map};
-ghost use Rattle.decision_model.specs.Network.{IsValidNetwork};
-ghost use Rattle.decision_model.specs.Nodes.{node_at};
+ghost use Rattle.network_model.specs.Network.{IsValidNetwork};
+ghost use Rattle.network_model.specs.Nodes.{node_at};
 ghost use Rattle.node_state.specs.Holdings.{new_holding, legs_of};
 ghost use Rattle.network_sim.specs.Machine.{node as holding_at, station as station_at, AreCallersOf};
 ghost use Rattle.network_sim.specs.Supply.{AreSuppliersOf};
@@ -12,10 +12,10 @@ use crate::echelons::echelon_of;
 use crate::links::{Callers, Suppliers};
 use crate::station::Station;
 use crate::wiring::Wiring;
-use decision_model::{Items, Network};
 use fraction128::Memory;
+use network_model::{Items, Network};
 use node_state::{Node, NodeRule};
-use std::alloc::{AllocError, Global};
+use std::alloc::Global;
 use std::mem;
 
 // What a simulator knows of the node at a place.
@@ -25,7 +25,7 @@ fn station_of(
     place: usize,
     callers: Callers,
     suppliers: Suppliers,
-) -> Result<Station, AllocError>
+) -> Result<Station, Memory>
     requires valid { IsValidNetwork network.now }
     requires within { place < length network.now.nodes }
     requires callers { AreCallersOf network.now.nodes place callers }
@@ -34,9 +34,7 @@ fn station_of(
 {
     let node = &network.nodes.as_slice()[place];
     let echelon = echelon_of(alloc, network, place)?;
-    let Ok(demand) = node.demand.copy(alloc) else {
-        return Err(AllocError);
-    };
+    let demand = node.demand.copy(alloc)?;
     Ok(Station {
         rule: NodeRule::of_rule(&node.rule),
         holding: node.holding,
@@ -54,7 +52,7 @@ pub fn find_stations(
     alloc: Global,
     network: &Network,
     wiring: Wiring,
-) -> Result<Vec<Station>, AllocError>
+) -> Result<Vec<Station>, Memory>
     requires valid { IsValidNetwork network.now }
     requires wired { IsWiring network.now.nodes wiring.callers.items wiring.suppliers.items }
     ensures { IfOk result (λ v. AreStationsOf network.now v.items) }

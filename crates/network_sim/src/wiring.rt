@@ -1,10 +1,10 @@
 // Finds who orders from each node and who supplies it.
 ghost use Rattle.std.specs.Prelude.{◌≡◌, ℕ, ◌<◌, ◌≤◌, List, length, All, None, OnOk, IfOk, slice_index_or};
-ghost use Rattle.decision_model.specs.Shape.{misshapen_node};
+ghost use Rattle.network_model.specs.Shape.{misshapen_node};
 ghost use Rattle.network_sim.specs.Wiring.{IsWiring, IsAmong, with_caller, with_callers, supplier_of, suppliers_among, callers_of, no_callers as callers_anew};
 
 use crate::links::{Caller, Callers, Supplier, Suppliers};
-use decision_model::{Items, Link, Network};
+use network_model::{Items, Link, Network};
 use std::alloc::{AllocError, Global};
 
 /// Who orders from each node, and who supplies it: a list each, one entry a node.

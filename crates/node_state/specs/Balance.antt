@@ -5,7 +5,7 @@ use Rattle.std.specs.Prelude.{sum_by}
 use Rattle.std.proofs.Math.ListN.{set}
 use Rattle.std.proofs.lemmas.List.Elements.{All-map, All-weaker, All-head, All-tail, All-cons}
 use Rattle.std.proofs.lemmas.List.Sums.{sum_by-cons}
-use Rattle.decision_model.specs.declared.network.Link.{Link}
+use Rattle.network_model.specs.declared.network.Link.{Link}
 use Rattle.node_state.specs.Holdings.{Leg, Claim, Holding, no_leg, new_leg, in_pipe, least_raw, legs_of, new_holding, begun, claimed, placed, received, finished, served, leg_placed, leg_received, leg_made, claim_served, claims_served, left_over, unsent}
 use Rattle.node_state.specs.Sound.{ring_sum, pipe_placed, empty_pipe, least_below}
 

@@ -4,12 +4,12 @@ use Rattle.std.proofs.Common.{get_or}
 use Rattle.rand_pcg.specs.Lcg.{Lcg, started, increment_of}
 use Rattle.rand_pcg.specs.Pcg.{pcg32, multiplier_64}
 use Rattle.demand_law.specs.Picked.{picked}
-use Rattle.decision_model.specs.declared.network.Network.{Network}
-use Rattle.decision_model.specs.declared.network.NodeSpec.{NodeSpec}
-use Rattle.decision_model.specs.declared.network.Demand.{Demand}
-use Rattle.decision_model.specs.declared.network.Demand.TheVariants.{Nobody, Trace, Drawn}
-use Rattle.decision_model.specs.Nodes.{node_at}
-use Rattle.decision_model.specs.Network.{is_drawn}
+use Rattle.network_model.specs.declared.network.Network.{Network}
+use Rattle.network_model.specs.declared.network.NodeSpec.{NodeSpec}
+use Rattle.network_model.specs.declared.network.Demand.{Demand}
+use Rattle.network_model.specs.declared.network.Demand.TheVariants.{Nobody, Trace, Drawn}
+use Rattle.network_model.specs.Nodes.{node_at}
+use Rattle.network_model.specs.Network.{is_drawn}
 
 -- ---- words
 -- the generator of a seed, on stream 1

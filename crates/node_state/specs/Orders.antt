@@ -1,8 +1,8 @@
 -- Order rules, as functions of the position.
 use Rattle.std.specs.Prelude.{ℕ, ◌+◌, ◌*◌, ◌/◌, ℤ, ◌-ℤ◌, int_le, cond, Option, Some, None}
-use Rattle.decision_model.specs.declared.network.Rule.{Rule}
-use Rattle.decision_model.specs.declared.network.Rule.TheVariants.{Base, MinMax, Lot, Echelon, House}
-use Rattle.decision_model.specs.Positions.{above_zero}
+use Rattle.network_model.specs.declared.network.Rule.{Rule}
+use Rattle.network_model.specs.declared.network.Rule.TheVariants.{Base, MinMax, Lot, Echelon, House}
+use Rattle.model_terms.specs.Positions.{above_zero}
 
 -- up to the level
 abbrev pub base_order : ℤ → ℤ → ℕ

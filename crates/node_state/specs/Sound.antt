@@ -3,7 +3,7 @@ use Rattle.std.proofs.Common.{◌≡◌, ℕ, zero, suc, ◌+◌, ◌-◌, ◌^�
 use Rattle.std.specs.List.{All}
 use Rattle.std.proofs.lemmas.List.Elements.{All-map, All-weaker, All-head, All-cons, All-nil}
 use Rattle.std.proofs.lemmas.List.Sums.{sum_by-cons, sum_by_push}
-use Rattle.decision_model.specs.declared.network.Link.{Link}
+use Rattle.network_model.specs.declared.network.Link.{Link}
 use Rattle.node_state.specs.Holdings.{Leg, Claim, Holding, zeros, new_leg, new_claims, no_claim, legs_of, IsSound, push_ring, leg_placed, leg_made, in_pipe, least_raw, least_raw_from, claim_served, claims_served, left_over, total_due}
 
 -- the first amount of a ring, and the others

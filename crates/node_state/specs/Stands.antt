@@ -3,7 +3,7 @@ use Rattle.std.specs.Prelude.{ℕ, zero, suc, ◌+◌, ◌-◌, List, [], ◌∷
 use Rattle.std.proofs.Common.{get_or}
 use Rattle.node_state.specs.Holdings.{Leg, Claim, Holding, total}
 use Rattle.node_state.specs.Totals.{Setting, spec_at, before, demanded, claims_on, seen, shipped, received, made}
-use Rattle.decision_model.specs.declared.network.Link.{Link}
+use Rattle.network_model.specs.declared.network.Link.{Link}
 
 -- what a running total gains in a period
 abbrev pub gain : (ℕ → ℕ) → ℕ → ℕ

@@ -3,8 +3,8 @@ use Rattle.std.specs.Prelude.{ℕ, zero, suc, ◌+◌, ◌-◌, List, [], ◌∷
 use Rattle.std.proofs.Common.{get_or}
 use Rattle.node_state.specs.Holdings.{zeros}
 use Rattle.node_state.specs.Totals.{Setting, Line, orders_next, served_next, all_claims, line}
-use Rattle.decision_model.specs.declared.network.Network.{Network}
-use Rattle.decision_model.specs.declared.network.NodeSpec.{NodeSpec}
+use Rattle.network_model.specs.declared.network.Network.{Network}
+use Rattle.network_model.specs.declared.network.NodeSpec.{NodeSpec}
 use Rattle.node_state.specs.Draws.{own_demand}
 use Rattle.node_state.specs.Handed.{Handed}
 

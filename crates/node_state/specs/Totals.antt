@@ -1,15 +1,15 @@
 -- A network by running totals. Nodes are numbered from 0, periods from 1; totals at period 0 are 0.
 use Rattle.std.specs.Prelude.{◌≡◌, ℕ, zero, suc, ◌+◌, ◌-◌, ◌*◌, ◌^◌, ◌<◌, ◌≤◌, min, ℤ, pos, ◌-ℤ◌, Bool, cond, List, [], ◌∷◌, ◌++◌, length, drop, map, Option, Some, None, All, ⊤}
 use Rattle.std.proofs.Common.{get_or}
-use Rattle.decision_model.specs.declared.network.Network.{Network}
-use Rattle.decision_model.specs.declared.network.NodeSpec.{NodeSpec}
-use Rattle.decision_model.specs.declared.network.Link.{Link}
-use Rattle.decision_model.specs.declared.network.Pause.TheVariants.{Orders, Shipments, Receipts}
-use Rattle.decision_model.specs.declared.network.Rule.{Rule}
-use Rattle.decision_model.specs.declared.network.Rule.TheVariants.{Base, MinMax, Lot, Echelon, House}
-use Rattle.decision_model.specs.Nodes.{node_at, is_from, is_echelon, top_of}
-use Rattle.decision_model.specs.Pauses.{is_paused}
-use Rattle.decision_model.specs.Load.{echelon_sum, own_load, need_most, order_limit, order_most}
+use Rattle.network_model.specs.declared.network.Network.{Network}
+use Rattle.network_model.specs.declared.network.NodeSpec.{NodeSpec}
+use Rattle.network_model.specs.declared.network.Link.{Link}
+use Rattle.network_model.specs.declared.network.Pause.TheVariants.{Orders, Shipments, Receipts}
+use Rattle.network_model.specs.declared.network.Rule.{Rule}
+use Rattle.network_model.specs.declared.network.Rule.TheVariants.{Base, MinMax, Lot, Echelon, House}
+use Rattle.network_model.specs.Nodes.{node_at, is_from, is_echelon, top_of}
+use Rattle.network_model.specs.Pauses.{is_paused}
+use Rattle.network_model.specs.Load.{echelon_sum, own_load, need_most, order_limit, order_most}
 use Rattle.node_state.specs.Holdings.{total, zeros}
 use Rattle.node_state.specs.Handed.{Ask, Handed, rule_at}
 use Rattle.node_state.specs.Orders.{order_of}

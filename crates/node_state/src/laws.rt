@@ -1,8 +1,8 @@
 // Laws of nodes and of rules.
 ghost use Rattle.std.specs.Prelude.{◌≡◌, ℕ, ◌+◌, ◌<◌, ◌≤◌, ℤ, pos, ◌+ℤ◌, ◌≤ℤ◌, Bool, List, length, slice_index_or};
-ghost use Rattle.decision_model.specs.declared.network.Link.{Link};
-ghost use Rattle.decision_model.specs.declared.network.Rule.{Rule};
-ghost use Rattle.decision_model.specs.Nodes.{peak_of};
+ghost use Rattle.network_model.specs.declared.network.Link.{Link};
+ghost use Rattle.network_model.specs.declared.network.Rule.{Rule};
+ghost use Rattle.network_model.specs.Nodes.{peak_of};
 ghost use Rattle.node_state.specs.Orders.{order_of};
 ghost use Rattle.node_state.specs.Holdings.{Holding, new_holding, legs_of, begun, claimed, placed, received, finished, served, no_leg};
 ghost use Rattle.node_state.specs.Balance.{IsBalanced, sent_out};

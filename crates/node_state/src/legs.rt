@@ -4,7 +4,7 @@ ghost use Rattle.std.specs.List.{All};
 ghost use Rattle.node_state.specs.Holdings.{legs_of, new_claims as claims_anew, push_ring, leg_placed, leg_made, least_raw, unsent, claims_served, left_over, total_due};
 
 use crate::leg::{Claim, Leg};
-use decision_model::Link;
+use network_model::Link;
 use std::alloc::{AllocError, Global};
 
 /// Sends the order to each source.

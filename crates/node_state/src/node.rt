@@ -7,8 +7,8 @@ use crate::leg::{Claim, Leg};
 use crate::legs::{
     least, make_all, new_claims, new_legs, place_all, send_nothing, serve_all, sum_due,
 };
-use decision_model::Link;
 use fraction128::Memory;
+use network_model::Link;
 use std::alloc::Global;
 use std::marker::Model;
 

@@ -1,10 +1,10 @@
 // Order rules: how many units a node orders at a position.
 ghost use Rattle.std.specs.Prelude.{◌≡◌, ℕ, ◌+◌, ◌*◌, ◌/◌, ◌^◌, ◌<◌, ◌≤◌, ℤ, pos, ◌+ℤ◌, ◌≤ℤ◌, ◌<ℤ◌, Bool, true, false};
 ghost use Rattle.std.specs.Int.RustNames.{unsigned_abs};
-ghost use Rattle.decision_model.specs.Positions.{above_zero};
+ghost use Rattle.model_terms.specs.Positions.{above_zero};
 ghost use Rattle.node_state.specs.Orders.{base_order};
 
-use decision_model::{Rule, above_zero};
+use network_model::{Rule, above_zero};
 use std::marker::Model;
 
 /// Which stock a rule looks at.
@@ -86,8 +86,8 @@ impl BaseStock {
 }
 
 impl OrderRule for BaseStock {
-    ghost use Rattle.decision_model.specs.declared.network.Rule.TheVariants.{Base};
-    ghost use Rattle.decision_model.specs.Nodes.{peak_of};
+    ghost use Rattle.network_model.specs.declared.network.Rule.TheVariants.{Base};
+    ghost use Rattle.network_model.specs.Nodes.{peak_of};
     ghost use Rattle.node_state.specs.Orders.{order_of};
     ghost use Rattle.node_state.specs.Peaks.{order_within};
 
@@ -130,8 +130,8 @@ impl MinMax {
 }
 
 impl OrderRule for MinMax {
-    ghost use Rattle.decision_model.specs.declared.network.Rule.TheVariants.{MinMax as MinMaxOf};
-    ghost use Rattle.decision_model.specs.Nodes.{peak_of};
+    ghost use Rattle.network_model.specs.declared.network.Rule.TheVariants.{MinMax as MinMaxOf};
+    ghost use Rattle.network_model.specs.Nodes.{peak_of};
     ghost use Rattle.node_state.specs.Orders.{order_of};
     ghost use Rattle.node_state.specs.Peaks.{order_within};
 
@@ -188,8 +188,8 @@ fn whole_lots(missing: u64, lot: u64) -> u64
 }
 
 impl OrderRule for ReorderLot {
-    ghost use Rattle.decision_model.specs.declared.network.Rule.TheVariants.{Lot};
-    ghost use Rattle.decision_model.specs.Nodes.{peak_of};
+    ghost use Rattle.network_model.specs.declared.network.Rule.TheVariants.{Lot};
+    ghost use Rattle.network_model.specs.Nodes.{peak_of};
     ghost use Rattle.node_state.specs.Orders.{order_of};
     ghost use Rattle.node_state.specs.Peaks.{order_within};
 
@@ -231,8 +231,8 @@ impl EchelonBase {
 }
 
 impl OrderRule for EchelonBase {
-    ghost use Rattle.decision_model.specs.declared.network.Rule.TheVariants.{Echelon};
-    ghost use Rattle.decision_model.specs.Nodes.{peak_of};
+    ghost use Rattle.network_model.specs.declared.network.Rule.TheVariants.{Echelon};
+    ghost use Rattle.network_model.specs.Nodes.{peak_of};
     ghost use Rattle.node_state.specs.Orders.{order_of};
     ghost use Rattle.node_state.specs.Peaks.{order_within};
 
@@ -260,8 +260,8 @@ pub struct NodeRule {
 }
 
 impl Model for NodeRule {
-    ghost use Rattle.decision_model.specs.declared.network.Rule.{Rule as RuleOf};
-    ghost use Rattle.decision_model.specs.Nodes.{IsReadableRule};
+    ghost use Rattle.network_model.specs.declared.network.Rule.{Rule as RuleOf};
+    ghost use Rattle.network_model.specs.Nodes.{IsReadableRule};
 
     ghost Value = { RuleOf };
 
@@ -275,7 +275,7 @@ impl Model for NodeRule {
 impl NodeRule {
     ghost use Rattle.std.specs.Prelude.{◌≡◌, ◌≤◌, ◌^◌};
     ghost use Rattle.std.specs.Int.RustNames.{unsigned_abs};
-    ghost use Rattle.decision_model.specs.Nodes.{IsReadableRule, peak_of, is_echelon};
+    ghost use Rattle.network_model.specs.Nodes.{IsReadableRule, peak_of, is_echelon};
     ghost use Rattle.node_state.specs.Orders.{order_of, house_of};
 
     pub fn of_rule(rule: &Rule) -> NodeRule

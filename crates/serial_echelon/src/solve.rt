@@ -1,14 +1,15 @@
 // The solver.
 ghost use Rattle.std.specs.Prelude.{◌≡◌, ◌+◌, ◌-◌, ◌<◌, ◌≤◌, length, true, IfOk, OnOk};
 ghost use Rattle.decision_model.specs.Serial.{IsValidSerial};
+ghost use Rattle.decision_model.specs.declared.instance.Instance.TheVariants as instance;
 ghost use Rattle.serial_echelon.specs.Solving.{HasSolved, cell_at};
 ghost use Rattle.serial_recursion.specs.Periods.{is_left, is_ready, is_whole};
 ghost use Rattle.serial_recursion.specs.Recursions.{serial_of, periods_of, echelons_of, cells_of};
 ghost use Rattle.serial_recursion.specs.Rows.{period_of};
-ghost use Rattle.value_cert.specs.Kept.{Keeps};
-ghost use Rattle.value_cert.specs.SerialRules.{IsLeastPolicy, serial_rules, no_rows, solved_row, solved_period, solved_serial};
+ghost use Rattle.value_cert.specs.Kept.{BreaksNoRule};
+ghost use Rattle.value_cert.specs.SerialRules.{IsLeastPolicy, solved_row, solved_period, solved_serial};
 ghost use Rattle.value_cert.specs.SerialValues.{row_width};
-ghost use Rattle.value_cert.specs.Texts.{HasText, cert_lines};
+ghost use Rattle.value_cert.specs.Texts.{HasText};
 ghost use Rattle.value_cert.specs.declared.cert.Cert.TheVariants as cert;
 
 use decision_model::{Items, Serial};
@@ -151,7 +152,7 @@ pub fn solve_serial(alloc: Global, serial: &Serial) -> Result<SerialCert, Memory
     requires { IsValidSerial serial.now }
     ensures exact { IfOk result (λ c. c ≡ solved_serial serial.now) }
     ensures least { IfOk result (IsLeastPolicy serial.now) }
-    ensures accepted { IfOk result (λ c. Keeps (serial_rules serial.now) no_rows (cert_lines (cert.Serial c))) }
+    ensures accepted { IfOk result (λ c. BreaksNoRule (instance.Serial serial.now) (cert.Serial c)) }
     ensures text { IfOk result (λ c. HasText (cert.Serial c)) }
 {
     match solve_periods(alloc, serial) {

@@ -7,6 +7,7 @@ use Rattle.std.specs.Int.Signed.{≤ℤ_refl}
 use Rattle.std.proofs.lemmas.Bool.{and_parts, eq-eqb, ne_eqb}
 use Rattle.std.proofs.lemmas.Int.{ints}
 use Rattle.demand_law.specs.Integers as Z
+use Rattle.decision_model.specs.declared.instance.Instance.TheVariants as instance
 use Rattle.decision_model.specs.declared.serial.Serial.{Serial}
 use Rattle.decision_model.specs.Policies.{Least}
 use Rattle.decision_model.specs.Positions.{above_zero}
@@ -16,10 +17,9 @@ use Rattle.decision_model.specs.SerialProblem.{limit, over_echelons, are_ordered
 use Rattle.decision_model.specs.SerialSound.{sound_readable}
 use Rattle.decision_model.specs.SerialStates.{ordered_low, ordered_cap}
 use Rattle.value_cert.specs.Contents.{EachIs}
-use Rattle.value_cert.specs.Kept.{Keeps}
-use Rattle.value_cert.specs.SerialRules.{no_rows, put_level, rows_of, row_cells, cell_value, serial_levels, start_value, serial_rules, IsRowOf, IsPeriodOf, HasEachPeriod, IsLeastPolicy, CertifiesPolicy}
+use Rattle.value_cert.specs.Kept.{BreaksNoRule}
+use Rattle.value_cert.specs.SerialRules.{no_rows, put_level, rows_of, row_cells, cell_value, serial_levels, start_value, IsRowOf, IsPeriodOf, HasEachPeriod, IsLeastPolicy, CertifiesPolicy}
 use Rattle.value_cert.specs.SerialValues.{order_cost, echelon_value, no_values, base_stock_policy, row_width}
-use Rattle.value_cert.specs.Texts.{cert_lines}
 use Rattle.value_cert.specs.declared.cert.Cert.TheVariants as cert
 use Rattle.value_cert.specs.declared.serial.SerialCert.{SerialCert}
 use Rattle.value_cert.specs.declared.serial.SerialPeriod.{SerialPeriod}
@@ -185,5 +185,5 @@ module _ (serial : Serial) (readable : IsReadableSerial serial) (c : SerialCert)
       }
 
 -- a certificate whose lines break no rule names a policy that costs least
-pub serial_certifies : (serial : Serial) → IsReadableSerial serial → (c : SerialCert) → Keeps (serial_rules serial) no_rows (cert_lines (cert.Serial c)) → CertifiesPolicy serial (cert.Serial c)
+pub serial_certifies : (serial : Serial) → IsReadableSerial serial → (c : SerialCert) → BreaksNoRule (instance.Serial serial) (cert.Serial c) → CertifiesPolicy serial (cert.Serial c)
 serial_certifies serial readable c kept = least_policy serial readable c (periods_kept serial no_rows c.periods kept.1).pass

@@ -5,19 +5,22 @@ use Rattle.std.specs.List.{flat_map}
 use Rattle.std.proofs.lemmas.Bool.{and_parts, and_from, ltb-true, lt-ltb, leb-false, leb-true, le-leb, lt-leb, eqb-true, eq-eqb, not-true, not_from_false}
 use Rattle.std.proofs.Math.Dec.{eqb-suc-zero}
 use Rattle.std.proofs.lemmas.Int.{ints}
+use Rattle.decision_model.specs.declared.instance.Instance.TheVariants as instance
 use Rattle.decision_model.specs.declared.serial.Serial.{Serial}
 use Rattle.decision_model.specs.Serial.{serial_low}
 use Rattle.value_cert.specs.Kept.{Keeps}
 use Rattle.value_cert.specs.Numbers.{is_number}
+use Rattle.value_cert.specs.RuleTests.{same_number, number_at, rule_passed, passing_rule}
 use Rattle.value_cert.specs.Serial.{part_line, echelon_lines, period_lines}
-use Rattle.value_cert.specs.SerialRules.{FirstRows, put_level, put_value, is_row_whole, is_period_whole, is_next_period, is_next_echelon, is_next_position, level_rule, value_rule, position_rule, echelon_rule, serial_rules}
+use Rattle.value_cert.specs.SerialRules.{FirstRows, put_level, put_value, is_row_whole, is_period_whole, is_next_period, is_next_echelon, is_next_position, level_rule, value_rule, position_rule, echelon_rule}
 use Rattle.value_cert.specs.SerialValues.{order_cost, echelon_value, row_width}
+use Rattle.value_cert.specs.Standards.{rules_of}
 use Rattle.value_cert.specs.declared.line.CertLine.{CertLine}
 use Rattle.value_cert.specs.declared.line.CertLine.TheVariants.{End}
 use Rattle.value_cert.specs.declared.serial.SerialCell.{SerialCell}
 use Rattle.value_cert.specs.declared.serial.SerialPeriod.{SerialPeriod}
 use Rattle.value_cert.specs.declared.serial.SerialRow.{SerialRow}
-use Rattle.serial_lemmas.specs.RowCells.{CellPasses, CellsPass, put_cells, cells_most, same_number, number_at, rule_passed, passing_rule}
+use Rattle.serial_lemmas.specs.RowCells.{CellPasses, CellsPass, put_cells, cells_most}
 
 -- ---- rows
 -- a row of echelon i in period t, which n periods follow, that breaks no rule, with the values F of the next period and
@@ -78,7 +81,7 @@ module _ (serial : Serial) where
   -- ---- from the lines to the rows
   record CellsKept (p : ℕ) (later : ℕ → ℤ → ℤ) (e : ℕ) (levels : ℕ → ℤ) (k : ℕ) (values : ℕ → ℤ → ℤ) (cells : List SerialCell) (rest : List CertLine) : Type 0 where
     pass : CellsPass (value_in p later levels (e - 1)) (serial_low serial (period_of p)) (row_width serial (period_of p)) k cells
-    behind : Keeps (serial_rules serial) (known p later e levels (k + length cells) (put_cells values (e - 1) cells)) rest
+    behind : Keeps (rules_of (instance.Serial serial)) (known p later e levels (k + length cells) (put_cells values (e - 1) cells)) rest
 
   -- a cell line that breaks no rule
   cell_passes : (p : ℕ) (later : ℕ → ℤ → ℤ) (e : ℕ) (levels : ℕ → ℤ) (k : ℕ) (values : ℕ → ℤ → ℤ) (cell : SerialCell) → position_rule serial (known p later e levels k values) cell.at cell.value ≡ None → CellPasses (value_in p later levels (e - 1)) (serial_low serial (period_of p)) (row_width serial (period_of p)) k cell
@@ -95,17 +98,17 @@ module _ (serial : Serial) where
       }
 
   -- the cell lines of a row that break no rule
-  cells_kept : (p : ℕ) (later : ℕ → ℤ → ℤ) (e : ℕ) (levels : ℕ → ℤ) (k : ℕ) (values : ℕ → ℤ → ℤ) (cells : List SerialCell) (rest : List CertLine) → Keeps (serial_rules serial) (known p later e levels k values) (map part_line cells ++ rest) → CellsKept p later e levels k values cells rest
+  cells_kept : (p : ℕ) (later : ℕ → ℤ → ℤ) (e : ℕ) (levels : ℕ → ℤ) (k : ℕ) (values : ℕ → ℤ → ℤ) (cells : List SerialCell) (rest : List CertLine) → Keeps (rules_of (instance.Serial serial)) (known p later e levels k values) (map part_line cells ++ rest) → CellsKept p later e levels k values cells rest
   cells_kept p later e levels k values [] rest kept =
       let none : k ≡ k + 0 = omega arith in
-      record { pass = tt; behind = subst (λ (j : ℕ). Keeps (serial_rules serial) (known p later e levels j values) rest) none kept }
+      record { pass = tt; behind = subst (λ (j : ℕ). Keeps (rules_of (instance.Serial serial)) (known p later e levels j values) rest) none kept }
   cells_kept p later e levels k values (cell ∷ cells) rest kept =
       let put = put_cells values (e - 1) (cell ∷ cells) in
       let more = cells_kept p later e levels (suc k) (put_value values (e - 1) cell.at cell.value) cells rest kept.1 in
       let same : suc k + length cells ≡ k + suc (length cells) = omega arith in
       record {
         pass = (cell_passes p later e levels k values cell kept.0, more.pass);
-        behind = subst (λ (j : ℕ). Keeps (serial_rules serial) (known p later e levels j put) rest) same more.behind;
+        behind = subst (λ (j : ℕ). Keeps (rules_of (instance.Serial serial)) (known p later e levels j put) rest) same more.behind;
       }
 
   -- an echelon line that breaks no rule
@@ -134,7 +137,7 @@ module _ (serial : Serial) where
   record RowsKept (p : ℕ) (later : ℕ → ℤ → ℤ) (e : ℕ) (levels : ℕ → ℤ) (k : ℕ) (values : ℕ → ℤ → ℤ) (rows : List SerialRow) (rest : List CertLine) : Type 0 where
     before : row_whole p (last_cells k rows) ≡ true → (eqb e 0 || row_whole p k) ≡ true
     pass : row_whole p (last_cells k rows) ≡ true → RowsPass serial later (p - 1) (period_of p) e levels rows
-    behind : Keeps (serial_rules serial) (known p later (e + length rows) (put_levels levels e rows) (last_cells k rows) (put_rows values e rows)) rest
+    behind : Keeps (rules_of (instance.Serial serial)) (known p later (e + length rows) (put_levels levels e rows) (last_cells k rows) (put_rows values e rows)) rest
 
   -- either of two tests, of which the second is passed
   or_second : (a b : Bool) → b ≡ true → (a || b) ≡ true
@@ -142,20 +145,20 @@ module _ (serial : Serial) where
   or_second false b h = h
 
   -- the lines of rows that break no rule
-  rows_kept : (p : ℕ) (later : ℕ → ℤ → ℤ) (e : ℕ) (levels : ℕ → ℤ) (k : ℕ) (values : ℕ → ℤ → ℤ) (rows : List SerialRow) (rest : List CertLine) → Keeps (serial_rules serial) (known p later e levels k values) (flat_map echelon_lines rows ++ rest) → RowsKept p later e levels k values rows rest
+  rows_kept : (p : ℕ) (later : ℕ → ℤ → ℤ) (e : ℕ) (levels : ℕ → ℤ) (k : ℕ) (values : ℕ → ℤ → ℤ) (rows : List SerialRow) (rest : List CertLine) → Keeps (rules_of (instance.Serial serial)) (known p later e levels k values) (flat_map echelon_lines rows ++ rest) → RowsKept p later e levels k values rows rest
   rows_kept p later e levels k values [] rest kept =
       let none : e ≡ e + 0 = omega arith in
-      record { before = or_second (eqb e 0) (row_whole p k); pass = λ whole. tt; behind = subst (λ (j : ℕ). Keeps (serial_rules serial) (known p later j levels k values) rest) none kept }
+      record { before = or_second (eqb e 0) (row_whole p k); pass = λ whole. tt; behind = subst (λ (j : ℕ). Keeps (rules_of (instance.Serial serial)) (known p later j levels k values) rest) none kept }
   rows_kept p later e levels k values (row ∷ rows) rest kept =
       let here = echelon_kept p later e levels k values row.echelon row.level kept.0 in
       let put = put_level levels e row.level in
-      let K : List CertLine → Type 0 = λ lines. Keeps (serial_rules serial) (known p later (suc e) put 0 values) lines in
+      let K : List CertLine → Type 0 = λ lines. Keeps (rules_of (instance.Serial serial)) (known p later (suc e) put 0 values) lines in
       let lines = subst K (append_assoc (map part_line row.cells) (flat_map echelon_lines rows) rest) kept.1 in
       let cells = cells_kept p later (suc e) put 0 values row.cells (flat_map echelon_lines rows ++ rest) lines in
       let same : suc e - 1 ≡ e = omega arith in
       let count : 0 + length row.cells ≡ length row.cells = omega arith in
-      let behind = subst (λ (k : ℕ). Keeps (serial_rules serial) (known p later (suc e) put k (put_cells values e row.cells)) (flat_map echelon_lines rows ++ rest)) count
-      (subst (λ (j : ℕ). Keeps (serial_rules serial) (known p later (suc e) put (0 + length row.cells) (put_cells values j row.cells)) (flat_map echelon_lines rows ++ rest)) same cells.behind) in
+      let behind = subst (λ (k : ℕ). Keeps (rules_of (instance.Serial serial)) (known p later (suc e) put k (put_cells values e row.cells)) (flat_map echelon_lines rows ++ rest)) count
+      (subst (λ (j : ℕ). Keeps (rules_of (instance.Serial serial)) (known p later (suc e) put (0 + length row.cells) (put_cells values j row.cells)) (flat_map echelon_lines rows ++ rest)) same cells.behind) in
       let pass = subst (λ (j : ℕ). CellsPass (value_in p later put j) (serial_low serial (period_of p)) (row_width serial (period_of p)) 0 row.cells) same cells.pass in
       let others = rows_kept p later (suc e) put (length row.cells) (put_cells values e row.cells) rows rest behind in
       let ended : suc e + length rows ≡ e + suc (length rows) = omega arith in
@@ -170,7 +173,7 @@ module _ (serial : Serial) where
           },
           others.pass whole,
         );
-        behind = subst (λ (j : ℕ). Keeps (serial_rules serial) (known p later j (put_levels put (suc e) rows) (last_cells (length row.cells) rows) (put_rows (put_cells values e row.cells) (suc e) rows)) rest) ended others.behind;
+        behind = subst (λ (j : ℕ). Keeps (rules_of (instance.Serial serial)) (known p later j (put_levels put (suc e) rows) (last_cells (length row.cells) rows) (put_rows (put_cells values e row.cells) (suc e) rows)) rest) ended others.behind;
       }
     where
       full : (count : ℕ) → 0 + count ≤ row_width serial (period_of p) → (eqb (suc e) 0 || row_whole p count) ≡ true → count ≡ row_width serial (period_of p)
@@ -206,7 +209,7 @@ module _ (serial : Serial) where
       (eqb-true e (length serial.holding) parts.0, parts.1)
 
   -- the lines of periods that break no rule
-  pub periods_kept : (first : FirstRows) (periods : List SerialPeriod) → Keeps (serial_rules serial) first (flat_map period_lines periods ++ End ∷ []) → PeriodsKept first periods
+  pub periods_kept : (first : FirstRows) (periods : List SerialPeriod) → Keeps (rules_of (instance.Serial serial)) first (flat_map period_lines periods ++ End ∷ []) → PeriodsKept first periods
   periods_kept first [] kept =
       let all = (rule_passed _ None 2 kept.0).0 in
       let parts = and_parts (is_period_whole serial first) (eqb first.periods serial.periods) all in
@@ -215,7 +218,7 @@ module _ (serial : Serial) where
       let here = period_kept first period.period kept.0 in
       let p = first.periods in
       let rest = flat_map period_lines periods ++ End ∷ [] in
-      let K : List CertLine → Type 0 = λ lines. Keeps (serial_rules serial) (known (suc p) first.values 0 first.levels 0 first.values) lines in
+      let K : List CertLine → Type 0 = λ lines. Keeps (rules_of (instance.Serial serial)) (known (suc p) first.values 0 first.levels 0 first.values) lines in
       let lines = subst K (append_assoc (flat_map echelon_lines period.rows) (flat_map period_lines periods) (End ∷ [])) kept.1 in
       let rows = rows_kept (suc p) first.values 0 first.levels 0 first.values period.rows rest lines in
       let others = periods_kept (known (suc p) first.values (0 + length period.rows) (put_levels first.levels 0 period.rows) (last_cells 0 period.rows) (put_rows first.values 0 period.rows)) periods rows.behind in
@@ -249,15 +252,15 @@ module _ (serial : Serial) where
       (passing_rule (is_number (value_in p later levels (e - 1) cell.at) cell.value) None 5 value refl)
 
   -- the lines of cells that pass break no rule
-  passing_cells : (p : ℕ) (later : ℕ → ℤ → ℤ) (e : ℕ) (levels : ℕ → ℤ) (k : ℕ) (values : ℕ → ℤ → ℤ) (cells : List SerialCell) (rest : List CertLine) → 0 < e → CellsPass (value_in p later levels (e - 1)) (serial_low serial (period_of p)) (row_width serial (period_of p)) k cells → Keeps (serial_rules serial) (known p later e levels (k + length cells) (put_cells values (e - 1) cells)) rest → Keeps (serial_rules serial) (known p later e levels k values) (map part_line cells ++ rest)
+  passing_cells : (p : ℕ) (later : ℕ → ℤ → ℤ) (e : ℕ) (levels : ℕ → ℤ) (k : ℕ) (values : ℕ → ℤ → ℤ) (cells : List SerialCell) (rest : List CertLine) → 0 < e → CellsPass (value_in p later levels (e - 1)) (serial_low serial (period_of p)) (row_width serial (period_of p)) k cells → Keeps (rules_of (instance.Serial serial)) (known p later e levels (k + length cells) (put_cells values (e - 1) cells)) rest → Keeps (rules_of (instance.Serial serial)) (known p later e levels k values) (map part_line cells ++ rest)
   passing_cells p later e levels k values [] rest begun pass kept =
       let none : k + 0 ≡ k = omega arith in
-      subst (λ (j : ℕ). Keeps (serial_rules serial) (known p later e levels j values) rest) none kept
+      subst (λ (j : ℕ). Keeps (rules_of (instance.Serial serial)) (known p later e levels j values) rest) none kept
   passing_cells p later e levels k values (cell ∷ cells) rest begun pass kept =
       let put = put_value values (e - 1) cell.at cell.value in
       let same : k + suc (length cells) ≡ suc k + length cells = omega arith in (
         passing_cell p later e levels k values cell begun pass.0,
-        passing_cells p later e levels (suc k) put cells rest begun pass.1 (subst (λ (j : ℕ). Keeps (serial_rules serial) (known p later e levels j (put_cells put (e - 1) cells)) rest) same kept),
+        passing_cells p later e levels (suc k) put cells rest begun pass.1 (subst (λ (j : ℕ). Keeps (rules_of (instance.Serial serial)) (known p later e levels j (put_cells put (e - 1) cells)) rest) same kept),
       )
 
   -- the line of an echelon that passes breaks no rule
@@ -273,10 +276,10 @@ module _ (serial : Serial) where
       is.rule
 
   -- the lines of rows that pass break no rule
-  passing_rows : (p : ℕ) (later : ℕ → ℤ → ℤ) (e : ℕ) (levels : ℕ → ℤ) (k : ℕ) (values : ℕ → ℤ → ℤ) (rows : List SerialRow) (rest : List CertLine) → 1 ≤ p → e + length rows ≤ length serial.holding → (eqb e 0 || row_whole p k) ≡ true → RowsPass serial later (p - 1) (period_of p) e levels rows → Keeps (serial_rules serial) (known p later (e + length rows) (put_levels levels e rows) (last_cells k rows) (put_rows values e rows)) rest → Keeps (serial_rules serial) (known p later e levels k values) (flat_map echelon_lines rows ++ rest)
+  passing_rows : (p : ℕ) (later : ℕ → ℤ → ℤ) (e : ℕ) (levels : ℕ → ℤ) (k : ℕ) (values : ℕ → ℤ → ℤ) (rows : List SerialRow) (rest : List CertLine) → 1 ≤ p → e + length rows ≤ length serial.holding → (eqb e 0 || row_whole p k) ≡ true → RowsPass serial later (p - 1) (period_of p) e levels rows → Keeps (rules_of (instance.Serial serial)) (known p later (e + length rows) (put_levels levels e rows) (last_cells k rows) (put_rows values e rows)) rest → Keeps (rules_of (instance.Serial serial)) (known p later e levels k values) (flat_map echelon_lines rows ++ rest)
   passing_rows p later e levels k values [] rest some more whole pass kept =
       let none : e + 0 ≡ e = omega arith in
-      subst (λ (j : ℕ). Keeps (serial_rules serial) (known p later j levels k values) rest) none kept
+      subst (λ (j : ℕ). Keeps (rules_of (instance.Serial serial)) (known p later j levels k values) rest) none kept
   passing_rows p later e levels k values (row ∷ rows) rest some more whole pass kept =
       let put = put_level levels e row.level in
       let width = row_width serial (period_of p) in
@@ -285,12 +288,12 @@ module _ (serial : Serial) where
       let ended : e + suc (length rows) ≡ suc e + length rows = omega arith in
       let filled = or_second (eqb (suc e) 0) (row_whole p (length row.cells)) (le-leb width (length row.cells) (omega (arith, pass.0.whole))) in
       let behind = passing_rows p later (suc e) put (length row.cells) (put_cells values e row.cells) rows rest some (omega (arith, more)) filled pass.1
-      (subst (λ (j : ℕ). Keeps (serial_rules serial) (known p later j (put_levels put (suc e) rows) (last_cells (length row.cells) rows) (put_rows (put_cells values e row.cells) (suc e) rows)) rest) ended kept) in
+      (subst (λ (j : ℕ). Keeps (rules_of (instance.Serial serial)) (known p later j (put_levels put (suc e) rows) (last_cells (length row.cells) rows) (put_rows (put_cells values e row.cells) (suc e) rows)) rest) ended kept) in
       let lines = passing_cells p later (suc e) put 0 values row.cells (flat_map echelon_lines rows ++ rest) (omega arith)
       (subst (λ (j : ℕ). CellsPass (value_in p later put j) (serial_low serial (period_of p)) width 0 row.cells) same pass.0.cells)
-      (subst (λ (j : ℕ). Keeps (serial_rules serial) (known p later (suc e) put (0 + length row.cells) (put_cells values j row.cells)) (flat_map echelon_lines rows ++ rest)) same
-      (subst (λ (k : ℕ). Keeps (serial_rules serial) (known p later (suc e) put k (put_cells values e row.cells)) (flat_map echelon_lines rows ++ rest)) count behind)) in
-      let K : List CertLine → Type 0 = λ lines. Keeps (serial_rules serial) (known p later (suc e) put 0 values) lines in
+      (subst (λ (j : ℕ). Keeps (rules_of (instance.Serial serial)) (known p later (suc e) put (0 + length row.cells) (put_cells values j row.cells)) (flat_map echelon_lines rows ++ rest)) same
+      (subst (λ (k : ℕ). Keeps (rules_of (instance.Serial serial)) (known p later (suc e) put k (put_cells values e row.cells)) (flat_map echelon_lines rows ++ rest)) count behind)) in
+      let K : List CertLine → Type 0 = λ lines. Keeps (rules_of (instance.Serial serial)) (known p later (suc e) put 0 values) lines in
       (passing_echelon p later e levels k values row some (omega (arith, more)) whole pass.0, subst K (sym (append_assoc (map part_line row.cells) (flat_map echelon_lines rows) rest)) lines)
 
   -- the last of some rows is whole
@@ -309,7 +312,7 @@ module _ (serial : Serial) where
       refl
 
   -- the lines of periods that pass break no rule
-  pub passing_periods : 1 ≤ length serial.holding → (first : FirstRows) (periods : List SerialPeriod) → is_period_whole serial first ≡ true → PeriodsPass serial first.values first.levels first.periods periods → Keeps (serial_rules serial) first (flat_map period_lines periods ++ End ∷ [])
+  pub passing_periods : 1 ≤ length serial.holding → (first : FirstRows) (periods : List SerialPeriod) → is_period_whole serial first ≡ true → PeriodsPass serial first.values first.levels first.periods periods → Keeps (rules_of (instance.Serial serial)) first (flat_map period_lines periods ++ End ∷ [])
   passing_periods some first [] whole pass =
       (passing_rule _ None 2 (and_from (is_period_whole serial first) (eqb first.periods serial.periods) whole (eq-eqb first.periods serial.periods pass)) refl, tt)
   passing_periods some first (period ∷ periods) whole pass =
@@ -325,5 +328,5 @@ module _ (serial : Serial) where
       let next = or_second (eqb (suc p) 0) (eqb (0 + length period.rows) (length serial.holding) && row_whole (suc p) (last_cells 0 period.rows)) (and_from (eqb (0 + length period.rows) (length serial.holding)) (row_whole (suc p) (last_cells 0 period.rows)) (eq-eqb (0 + length period.rows) (length serial.holding) all) full) in
       let behind = passing_periods some ended periods next pass.1 in
       let lines = passing_rows (suc p) first.values 0 first.levels 0 first.values period.rows rest (omega arith) (omega (arith, pass.0.count)) refl rows behind in
-      let K : List CertLine → Type 0 = λ lines. Keeps (serial_rules serial) (known (suc p) first.values 0 first.levels 0 first.values) lines in
+      let K : List CertLine → Type 0 = λ lines. Keeps (rules_of (instance.Serial serial)) (known (suc p) first.values 0 first.levels 0 first.values) lines in
       (passing_period first period whole pass.0, subst K (sym (append_assoc (flat_map echelon_lines period.rows) (flat_map period_lines periods) (End ∷ []))) lines)

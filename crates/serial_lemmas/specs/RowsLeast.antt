@@ -12,12 +12,13 @@ use Rattle.decision_model.specs.PositionTests.{le_known, above_zero_is, above_ze
 use Rattle.decision_model.specs.Serial.{serial_low}
 use Rattle.decision_model.specs.SerialProblem.{unit_of}
 use Rattle.demand_law.specs.Integers as Z
+use Rattle.value_cert.specs.RuleTests.{rule_passed}
 use Rattle.value_cert.specs.SerialRules.{put_level, is_on_grid, turns_at, turns_at_level, level_rule, row_level, row_cells}
 use Rattle.value_cert.specs.SerialValues.{own, scale, penalty, order_cost, echelon_value, row_width, values}
 use Rattle.value_cert.specs.declared.serial.SerialCell.{SerialCell}
 use Rattle.value_cert.specs.declared.serial.SerialRow.{SerialRow}
 use Rattle.serial_lemmas.specs.Levels.{IsTurn}
-use Rattle.serial_lemmas.specs.RowCells.{CellsPass, put_cells, cells_same, cells_other, cells_put, rule_passed}
+use Rattle.serial_lemmas.specs.RowCells.{CellsPass, put_cells, cells_same, cells_other, cells_put}
 use Rattle.serial_lemmas.specs.RowsKept.{RowsPass, put_rows}
 
 -- ---- the rule on a level

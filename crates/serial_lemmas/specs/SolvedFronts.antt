@@ -6,10 +6,10 @@ use Rattle.decision_model.specs.Positions.{above_zero}
 use Rattle.decision_model.specs.Serial.{IsReadableSerial, serial_low}
 use Rattle.decision_model.specs.declared.serial.Serial.{Serial}
 use Rattle.serial_lemmas.specs.Levels.{IsLeastPosition}
-use Rattle.serial_lemmas.specs.RowCells.{number_at, same_number}
 use Rattle.serial_lemmas.specs.RowsLeast.{place_is}
 use Rattle.serial_lemmas.specs.SolvedKept.{AreLeast, grid_some, costs_are, level_is, least_is, value_is}
 use Rattle.value_cert.specs.Numbers.{is_number}
+use Rattle.value_cert.specs.RuleTests.{number_at, same_number}
 use Rattle.value_cert.specs.SerialRules.{FirstRows, no_rows, named_rows, put_level, put_value, last_period}
 use Rattle.value_cert.specs.SerialValues.{order_cost, echelon_value, levels_for, row_width, solved_level, solved_costs, solved_values}
 use Rattle.value_cert.specs.declared.line.CertLine.TheVariants.{Period, Echelon, Part}

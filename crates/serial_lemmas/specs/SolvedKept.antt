@@ -1,28 +1,29 @@
 -- The solver's certificate of a serial system breaks no rule: its costs of orders are convex, and so turn at its levels.
-use Rattle.std.proofs.Common.{◌≡◌, ◌⊎◌, inl, inr, ℕ, zero, suc, ◌+◌, ◌-◌, ◌<◌, ◌≤◌, Bool, true, false, cond, ◌&&◌, List, length, map, ℤ, pos, ◌+ℤ◌, ◌-ℤ◌, ◌≤ℤ◌, ◌<ℤ◌, refl, sym, ap, ◌∙◌, subst, arith}
-use Rattle.std.specs.Prelude.{Option, None, Some, int_le, int_lt}
+use Rattle.std.proofs.Common.{◌≡◌, ◌⊎◌, inl, inr, ℕ, zero, suc, ◌+◌, ◌-◌, ◌<◌, ◌≤◌, Bool, true, false, cond, List, length, map, ℤ, pos, ◌+ℤ◌, ◌-ℤ◌, ◌≤ℤ◌, ◌<ℤ◌, refl, sym, ap, ◌∙◌, subst, arith}
+use Rattle.std.specs.Prelude.{None, Some, int_le, int_lt}
 use Rattle.std.specs.List.{list_all, range_with_len}
 use Rattle.std.proofs.lemmas.Bool.{and_from, eq-eqb, ne_eqb, cases_lt}
 use Rattle.std.proofs.lemmas.Int.{ints}
 use Rattle.std.proofs.lemmas.List.FromFn.{length-map-range_with_len}
 use Rattle.newsvendor.specs.FirstLeast.{IsFirstUpto, search_is_first}
 use Rattle.newsvendor.specs.Least.{first_least_upto}
+use Rattle.decision_model.specs.declared.instance.Instance.TheVariants as instance
 use Rattle.decision_model.specs.declared.serial.Serial.{Serial}
 use Rattle.decision_model.specs.Positions.{above_zero}
 use Rattle.decision_model.specs.PositionTests.{le_test, above_zero_is}
 use Rattle.decision_model.specs.Serial.{IsReadableSerial, serial_low}
 use Rattle.decision_model.specs.SerialSound.{IsSoundSerial, sound_readable, low_zero}
-use Rattle.value_cert.specs.Kept.{Keeps}
-use Rattle.value_cert.specs.Numbers.{is_number}
-use Rattle.value_cert.specs.SerialRules.{no_rows, put_level, is_on_grid, turns_at, turns_at_level, level_rule, row_cells, serial_rules, solved_cell, solved_row, solved_period, solved_serial}
+use Rattle.value_cert.specs.Headings.{heading_of}
+use Rattle.value_cert.specs.Kept.{BreaksNoRule, own_head}
+use Rattle.value_cert.specs.RuleTests.{passing_rule}
+use Rattle.value_cert.specs.SerialRules.{no_rows, put_level, is_on_grid, turns_at, turns_at_level, level_rule, row_cells, solved_cell, solved_row, solved_period, solved_serial}
 use Rattle.value_cert.specs.SerialValues.{order_cost, echelon_value, no_values, least_position, solved_values, solved_costs, solved_level, row_width}
-use Rattle.value_cert.specs.Texts.{cert_lines}
 use Rattle.value_cert.specs.declared.cert.Cert.TheVariants as cert
 use Rattle.value_cert.specs.declared.serial.SerialCell.{SerialCell}
 use Rattle.serial_lemmas.specs.GridValues.{turns_same, costs_same, values_step}
 use Rattle.serial_lemmas.specs.Convex.{convex-constant}
 use Rattle.serial_lemmas.specs.Levels.{IsTurn, IsConvexOn, IsLeastPosition}
-use Rattle.serial_lemmas.specs.RowCells.{CellPasses, CellsPass, number_at, passing_rule}
+use Rattle.serial_lemmas.specs.RowCells.{CellPasses, CellsPass}
 use Rattle.serial_lemmas.specs.RowsKept.{RowPasses, RowsPass, PeriodsPass, put_rows, put_levels, passing_periods}
 use Rattle.serial_lemmas.specs.RowsLeast.{place_is, rows_put, value_same}
 use Rattle.serial_lemmas.specs.SerialConvex.{order_convex, value_convex, passes}
@@ -227,12 +228,9 @@ module _ (serial : Serial) (readable : IsReadableSerial serial) where
       )
 
   -- each line of the solver's certificate breaks no rule behind those before it
-  pub solved_breaks_nothing : Keeps (serial_rules serial) no_rows (cert_lines (cert.Serial (solved_serial serial)))
+  pub solved_breaks_nothing : BreaksNoRule (instance.Serial serial) (cert.Serial (solved_serial serial))
   solved_breaks_nothing =
       let periods = (solved_serial serial).periods in (
-        ap (λ b. cond {A = Option ℕ} b None (Some 2)) solved_head,
+        own_head (heading_of (instance.Serial serial)),
         passing_periods serial sound.some_echelon no_rows periods refl (periods_pass serial.periods 0 no_values (λ i. pos 0) (omega arith) (λ i x lt from to. refl)),
       )
-    where
-      solved_head : (is_number (pos serial.discount_num) (pos serial.discount_num) && is_number (pos serial.discount_den) (pos serial.discount_den)) ≡ true
-      solved_head = and_from (is_number (pos serial.discount_num) (pos serial.discount_num)) (is_number (pos serial.discount_den) (pos serial.discount_den)) (number_at (pos serial.discount_num) (pos serial.discount_num) refl) (number_at (pos serial.discount_den) (pos serial.discount_den) refl)

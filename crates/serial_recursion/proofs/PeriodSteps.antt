@@ -6,11 +6,11 @@ use Rattle.std.specs.Int.Signed.{≤ℤ_refl}
 use Rattle.decision_model.specs.Serial.{IsValidSerial, serial_low, serial_positions}
 use Rattle.decision_model.specs.declared.serial.Serial.{Serial}
 use Rattle.value_cert.specs.Numbers.{is_number}
+use Rattle.value_cert.specs.RuleTests.{same_number, number_at}
 use Rattle.value_cert.specs.SerialRules.{FirstRows, named_rows, last_period}
 use Rattle.value_cert.specs.SerialValues.{order_cost, echelon_value, no_values, row_width}
 use Rattle.value_cert.specs.declared.line.CertLine.TheVariants.{Period, Part}
 use Rattle.serial_lemmas.specs.BoundedValues.{AreBounded, bounded_values, bounded_last}
-use Rattle.serial_lemmas.specs.RowCells.{same_number, number_at}
 use Rattle.serial_recursion.specs.Periods.{HoldsPeriod, IsBounded, IsFresh, cell_at, next_at}
 use Rattle.serial_recursion.specs.Recursions.{KnowsTables}
 use Rattle.serial_recursion.specs.Rows.{period_of}

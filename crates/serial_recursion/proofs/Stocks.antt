@@ -8,7 +8,7 @@ use Rattle.decision_model.specs.Positions.{above_zero}
 use Rattle.decision_model.specs.PositionTests.{above_zero_mono}
 use Rattle.decision_model.specs.Stock.{HasRoom, stock_cost}
 use Rattle.decision_model.specs.Walks.{IsWalkOf, place_of, over_of, under_of}
-use Rattle.decision_model.specs.declared.walk.Walk.{Walk}
+use Rattle.least_values.specs.declared.walk.Walk.{Walk}
 use Rattle.serial_lemmas.specs.Sizes.{size_weighted}
 use Rattle.serial_recursion.specs.Rows.{HasValueRoom, place_value, stock_sum, value_at}
 use Rattle.serial_recursion.specs.declared.frame.Frame.{Frame}

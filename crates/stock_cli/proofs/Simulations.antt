@@ -5,7 +5,7 @@ use Rattle.std.specs.Io.KnownBytes.{Appends}
 use Rattle.std.proofs.lemmas.Bool.Decides.{nat_tests}
 use Rattle.std.proofs.lemmas.List.{append-nil}
 use Rattle.std.proofs.Math.Seq.{take-append-add}
-use Rattle.decision_model.specs.declared.network.Network.{Network}
+use Rattle.network_model.specs.declared.network.Network.{Network}
 use Rattle.decision_model.specs.declared.instance.Instance.TheVariants as variant
 use Rattle.decision_model.specs.Network.{IsValidNetwork}
 use Rattle.node_state.specs.Handed.{Handed}

@@ -1,7 +1,7 @@
 -- What was left to do, and how it ended.
 use Rattle.std.proofs.Common.{◌≡◌, ◌⊎◌, inl, inr, ℕ, List, Option, Some, None, Result, Ok, Err, IfSome, IsOk, refl, sym, ap, ◌∙◌, subst}
 use Rattle.std.specs.Io.KnownBytes.{Appends}
-use Rattle.decision_model.specs.declared.network.Network.{Network}
+use Rattle.network_model.specs.declared.network.Network.{Network}
 use Rattle.node_state.specs.Handed.{Handed}
 use Rattle.network_sim.specs.Houses.{rules_refusal}
 use Rattle.network_sim.specs.declared.errors.RuleOver.{RuleOver}

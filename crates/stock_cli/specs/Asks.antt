@@ -9,28 +9,22 @@ use Rattle.stock_cli.specs.declared.asked.About.{About}
 use Rattle.stock_cli.specs.declared.asked.About.TheVariants as about
 use Rattle.stock_cli.specs.declared.asked.Asked.{Asked}
 use Rattle.stock_cli.specs.declared.asked.Asked.TheVariants as asked
-use Rattle.stock_cli.specs.declared.asked.Question.TheVariants as question
+use Rattle.stock_cli.specs.declared.asked.KindQuestion.TheVariants as question
 use Rattle.stock_cli.specs.declared.names.Part.TheVariants as part
-
--- what a part is asked
-abbrev pub action_asked : About → Action → Asked
-action_asked of (action.Solve place) = asked.One of question.Solve place
-action_asked of (action.Certify place) = asked.One of question.Certify place
-action_asked of (action.Check instance cert) = asked.Two of instance cert
 
 -- what a command asks for
 abbrev pub asked_of : Command → Asked
-asked_of (command.Solve place) = asked.One about.Kinds question.Solve place
-asked_of (command.Certify place) = asked.One about.Kinds question.Certify place
-asked_of (command.Demand place) = asked.One about.Kinds question.Demand place
-asked_of (command.Simulate place) = asked.One about.Kinds question.Simulate place
-asked_of (command.Check instance cert) = asked.Two about.Kinds instance cert
+asked_of (command.Solve place) = asked.Action about.Kinds (action.Solve place)
+asked_of (command.Certify place) = asked.Action about.Kinds (action.Certify place)
+asked_of (command.Check instance cert) = asked.Action about.Kinds (action.Check instance cert)
+asked_of (command.Demand place) = asked.Kind question.Demand place
+asked_of (command.Simulate place) = asked.Kind question.Simulate place
 asked_of (command.Trial number) = asked.Number number
 asked_of command.Help = asked.Nothing
-asked_of (command.Bracket a) = action_asked (about.Part part.Bracket) a
-asked_of (command.Pipeline a) = action_asked (about.Part part.Pipeline) a
-asked_of (command.Service a) = action_asked (about.Part part.Service) a
-asked_of (command.Pairs a) = action_asked (about.Part part.Pairs) a
+asked_of (command.Bracket a) = asked.Action (about.Part part.Bracket) a
+asked_of (command.Pipeline a) = asked.Action (about.Part part.Pipeline) a
+asked_of (command.Service a) = asked.Action (about.Part part.Service) a
+asked_of (command.Pairs a) = asked.Action (about.Part part.Pairs) a
 
 -- the kinds always run, and a part where it is built
 abbrev pub Runs : About → Type 0
@@ -48,19 +42,28 @@ IsApart _ = Unit {0}
 
 -- what words may ask for: of what runs, and of two inputs only one from standard input
 abbrev pub CanRun : Asked → Type 0
-CanRun (asked.One of question place) = Runs of
-CanRun (asked.Two of instance cert) = Runs of × AreApart instance cert
-CanRun (asked.Number number) = Unit {0}
-CanRun asked.Nothing = Unit {0}
+CanRun (asked.Action of a) = Runs of × IsApart a
+CanRun _ = Unit {0}
 
--- the inputs that are asked, by their places among the words
+-- the inputs of an action, by their places among the words
+abbrev pub IsActionInput : Action → Option ℕ → Type 0
+IsActionInput (action.Solve input) place = place ≡ input
+IsActionInput (action.Certify input) place = place ≡ input
+IsActionInput (action.Check instance cert) place = (place ≡ instance) ⊎ (place ≡ cert)
+
+-- the inputs that are asked
 abbrev pub IsInputOf : Asked → Option ℕ → Type 0
-IsInputOf (asked.One of question input) place = place ≡ input
-IsInputOf (asked.Two of instance cert) place = (place ≡ instance) ⊎ (place ≡ cert)
+IsInputOf (asked.Action of a) place = IsActionInput a place
+IsInputOf (asked.Kind question input) place = place ≡ input
 IsInputOf (asked.Number number) place = ⊥
 IsInputOf asked.Nothing place = ⊥
 
+-- the action checks a certificate
+abbrev pub IsCheckAction : Action → Type 0
+IsCheckAction (action.Check instance cert) = Unit {0}
+IsCheckAction _ = ⊥
+
 -- a certificate is checked
 abbrev pub IsComparison : Asked → Type 0
-IsComparison (asked.Two of instance cert) = Unit {0}
+IsComparison (asked.Action of a) = IsCheckAction a
 IsComparison _ = ⊥

@@ -2,7 +2,6 @@
 use Rattle.std.specs.Prelude.{◌≡◌, ◌⊎◌, ℕ, ◌<◌, List, length, IfSome, Option, Some, None, Result, Ok, Err, String}
 use Rattle.std.specs.declared.alloc.Global.{Global}
 use Rattle.std.specs.Io.KnownBytes.{Appends}
-use Rattle.decision_model.specs.declared.instance.Instance.{Instance}
 use Rattle.report_text.specs.Messages.{fault_message}
 use Rattle.report_text.specs.declared.faults.Fault.{Fault}
 use Rattle.report_text.specs.declared.faults.Fault.TheVariants as fault
@@ -11,18 +10,19 @@ use Rattle.stock_edge.specs.HeldFiles.{Held, IsNotHeld}
 use Rattle.stock_edge.specs.declared.FileFault.{FileFault}
 use Rattle.stock_edge.specs.declared.FileFault.TheVariants as file
 use Rattle.stock_cli.specs.Asks.{asked_of, IsComparison, IsInputOf}
-use Rattle.stock_cli.specs.Inputs.{Content, Origin, SaysInstance, content_of, input_at, input_name}
-use Rattle.stock_cli.specs.Solvers.{IsBuilt}
-use Rattle.stock_cli.specs.Outcome.{Ending, Planned, instance_ending, message_of, question_outcome}
+use Rattle.stock_cli.specs.Endings.{item_ending}
+use Rattle.stock_cli.specs.Inputs.{Content, Origin, contents, input_at, input_name}
+use Rattle.stock_cli.specs.Outcome.{Ending, Plan, Planned, message_of}
+use Rattle.stock_cli.specs.Subjects.{SubjectOf}
+use Rattle.stock_cli.specs.Told.{told_of}
 use Rattle.stock_cli.specs.Status.{IsDecided, status_of, word_fault}
 use Rattle.stock_cli.specs.Words.{command_of}
-use Rattle.stock_cli.specs.declared.asked.About.{About}
-use Rattle.stock_cli.specs.declared.asked.About.TheVariants as about
 use Rattle.stock_cli.specs.declared.asked.Asked.{Asked}
 use Rattle.stock_cli.specs.declared.asked.Asked.TheVariants as asked
-use Rattle.stock_cli.specs.declared.asked.Question.{Question}
 use Rattle.stock_cli.specs.declared.certificates.Unchecked.{Unchecked}
 use Rattle.stock_cli.specs.declared.certificates.Unchecked.TheVariants as unchecked
+use Rattle.stock_cli.specs.declared.words.Action.{Action}
+use Rattle.stock_cli.specs.declared.words.Action.TheVariants as action
 use Rattle.stock_cli.specs.declared.words.Command.{Command}
 use Rattle.stock_cli.specs.declared.words.WordErr.{WordErr}
 use Rattle.stock_cli.specs.declared.status.Status.{Status}
@@ -48,24 +48,19 @@ TakesInput (Ok command) place = IsInputOf (asked_of command) place
 TakesInput (Err e) place = ⊥
 
 -- ---- the inputs that a run comes to read
--- the content is an instance's that stands: it isn't too long, says the instance, and the solver of its kind is built
-pub record Stands (found : Result (List ℕ) Fault) : Type 0 where
-  pub instance : Instance
-  pub said : SaysInstance found instance
-  pub built : IsBuilt instance
+-- a check comes to its item's input, and to its certificate's where the item stands, as far as that is told
+abbrev pub ComparesInput : (Result (List ℕ) Fault → Type 0) → Content → Origin → Origin → Origin → Type 0
+ComparesInput stands content item cert = λ input. (input ≡ item) ⊎ ((input ≡ cert) × IfSome content stands)
 
--- a check comes to its instance's input, and to its certificate's where the instance stands, as far as that is told
-abbrev pub ComparesInput : Content → Origin → Origin → Origin → Type 0
-ComparesInput content instance cert = λ input. (input ≡ instance) ⊎ ((input ≡ cert) × IfSome content Stands)
-
--- a part that isn't built reads nothing
-abbrev pub ComparesAbout : About → Content → Origin → Origin → Origin → Type 0
-ComparesAbout about.Kinds content instance cert = ComparesInput content instance cert
-ComparesAbout (about.Part p) content instance cert = λ input. ⊥
+-- the inputs that an action comes to
+abbrev pub ActsOn : (Result (List ℕ) Fault → Type 0) → Option (List ℕ) → Option Held → List (String Global) → Action → Origin → Type 0
+ActsOn stands left held words (action.Solve place) = λ input. input ≡ input_at words place
+ActsOn stands left held words (action.Certify place) = λ input. input ≡ input_at words place
+ActsOn stands left held words (action.Check place cert) = ComparesInput stands (contents left held words place) (input_at words place) (input_at words cert)
 
 abbrev pub ComesTo : Option (List ℕ) → Option Held → List (String Global) → Asked → Origin → Type 0
-ComesTo left held words (asked.One of question place) = λ input. input ≡ input_at words place
-ComesTo left held words (asked.Two of place cert) = ComparesAbout of (content_of left held (input_at words place)) (input_at words place) (input_at words cert)
+ComesTo left held words (asked.Action of a) = ActsOn (told_of of).Stands left held words a
+ComesTo left held words (asked.Kind question place) = λ input. input ≡ input_at words place
 ComesTo left held words _ = λ input. ⊥
 
 -- the run of these words comes to read this input
@@ -142,18 +137,18 @@ abbrev pub file_unchecked : FileFault → Unchecked
 file_unchecked file.Missing = unchecked.Missing
 file_unchecked file.Failed = unchecked.Failed
 
--- why an input gives no instance: its object failed, memory was refused, or it is how the run ends, whatever is asked of the instance
-abbrev pub GivesNone : (List ℕ → Type 0) → Content → Fault → Type 0
-GivesNone unread content (fault.ReadFault name) = unread name
-GivesNone unread content fault.Memory = Unit {0}
-GivesNone unread content fault.WriteFault = ⊥
-GivesNone unread content f = (answer : Instance → Planned) → IfSome (instance_ending answer content) (λ end. end ≡ Err f)
+-- why an input gives no item: its object failed, memory was refused, or it is how the run ends, whatever is asked of the item
+abbrev pub GivesNone : {Item Cert : Type 0} → SubjectOf Item Cert → (List ℕ → Type 0) → Content → Fault → Type 0
+GivesNone subject unread content (fault.ReadFault name) = unread name
+GivesNone subject unread content fault.Memory = Unit {0}
+GivesNone subject unread content fault.WriteFault = ⊥
+GivesNone {Item} {Cert} subject unread content f = (answer : Item → Planned) → IfSome (item_ending subject answer content) (λ end. end ≡ Err f)
 
--- why a question on an instance has no answer: memory was refused, or it has none for this kind
-abbrev pub HasNoAnswer : Question → Instance → Fault → Type 0
-HasNoAnswer question instance (fault.NotThisCommand kind) = question_outcome question instance ≡ Err (fault.NotThisCommand kind)
-HasNoAnswer question instance fault.Memory = Unit {0}
-HasNoAnswer question instance _ = ⊥
+-- why a question has no answer: memory was refused, or it has none for this kind
+abbrev pub HasNoAnswer : Result Plan Fault → Fault → Type 0
+HasNoAnswer outcome (fault.NotThisCommand kind) = outcome ≡ Err (fault.NotThisCommand kind)
+HasNoAnswer outcome fault.Memory = Unit {0}
+HasNoAnswer outcome _ = ⊥
 
 -- a refusal before anything is written has its cause: an input failed, memory was refused, or it is how the run ends
 abbrev pub IsRefused : {T : Type 0} → (List ℕ → Type 0) → Option (Result T Fault) → Fault → Type 0

@@ -1,8 +1,6 @@
 -- What the inputs of a command are, and what they hold. Places among the words count from 0.
 use Rattle.std.specs.Prelude.{◌≡◌, ℕ, ◌≤◌, List, [], length, map, codes, slice_index_or, Option, Some, None, Result, Ok, Err, String, string_bytes}
 use Rattle.std.specs.declared.alloc.Global.{Global}
-use Rattle.decision_model.specs.declared.instance.Instance.{Instance}
-use Rattle.instance_json.specs.Reads.{reads}
 use Rattle.report_text.specs.declared.faults.Fault.{Fault}
 use Rattle.report_text.specs.declared.faults.Fault.TheVariants as fault
 use Rattle.stock_edge.specs.HeldFiles.{Held}
@@ -55,9 +53,6 @@ abbrev pub content_of : Option (List ℕ) → Option Held → Origin → Content
 content_of left held None = standard_content left
 content_of left held (Some name) = named_content held name
 
--- the content is that of this instance, whose bytes are not too many
-pub record SaysInstance (content : Result (List ℕ) Fault) (instance : Instance) : Type 0 where
-  pub bytes : List ℕ
-  pub told : content ≡ Ok bytes
-  pub fits : length bytes ≤ 1048576
-  pub said : reads bytes ≡ Ok instance
+-- what the inputs of words hold, by their places
+abbrev pub contents : Option (List ℕ) → Option Held → List (String Global) → Option ℕ → Content
+contents left held words place = content_of left held (input_at words place)

@@ -2,7 +2,7 @@
 use Rattle.std.specs.Prelude.{◌≡◌, ℕ, zero, suc, ◌≤◌, List, [], ◌++◌, take, if◌then◌else◌, ◌==◌, Some, None, Result, Ok, Err}
 use Rattle.std.specs.declared.option.Option.{Option}
 use Rattle.std.specs.Io.KnownBytes.{Appends}
-use Rattle.decision_model.specs.declared.network.Network.{Network}
+use Rattle.network_model.specs.declared.network.Network.{Network}
 use Rattle.node_state.specs.Handed.{Handed}
 use Rattle.node_state.specs.Table.{network_row, network_total, setting_of}
 use Rattle.network_sim.specs.Houses.{period_over}

@@ -2,10 +2,9 @@
 use Rattle.std.specs.Prelude.{ℕ, List, [], ◌++◌, Option, Some, None}
 use Rattle.decision_model.specs.declared.instance.Instance.{Instance}
 use Rattle.decision_model.specs.declared.instance.Instance.TheVariants as instance
-use Rattle.decision_model.specs.declared.network.Network.{Network}
+use Rattle.network_model.specs.declared.network.Network.{Network}
 use Rattle.node_state.specs.Table.{network_total}
 use Rattle.decision_model.specs.Valid.{IsValid}
-use Rattle.cert_check.specs.Meaning.{IsTyped}
 use Rattle.value_cert.specs.Meaning.{solved_cert}
 use Rattle.value_cert.specs.declared.cert.Cert.{Cert}
 use Rattle.report_text.specs.Trial.{certified_line, last_line, number_line, run_line}
@@ -15,7 +14,8 @@ use Rattle.trial_instances.specs.Finite.{trial_finite}
 use Rattle.trial_instances.specs.Average.{trial_average}
 use Rattle.trial_instances.specs.Serial.{trial_serial}
 use Rattle.trial_instances.specs.Network.{trial_network}
-use Rattle.stock_cli.specs.Solvers.{IsBuilt}
+use Rattle.stock_cli.specs.KindSubject.{kind_subject}
+use Rattle.stock_cli.specs.Subjects.{IsSolved}
 
 abbrev pub line_of : Instance → Option Cert → List ℕ
 line_of i (Some c) = certified_line i c
@@ -52,8 +52,7 @@ unfoldable pub trial_text : ℕ → List ℕ
 trial_text number = number_line number ++ solved_lines number ++ network_line (trial_network number) ++ last_line
 
 -- ---- what is tried
--- the instance is valid, also in what its type says, and of a kind that is solved
+-- the instance is valid, and of a kind that is solved
 pub record IsTried (i : Instance) : Type 0 where
   pub valid : IsValid i
-  pub typed : IsTyped i
-  pub built : IsBuilt i
+  pub solved : IsSolved kind_subject i

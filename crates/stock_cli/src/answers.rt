@@ -5,6 +5,7 @@ ghost use Rattle.stock_edge.specs.Causes.{AppendsPrefix, HasCause, Rose};
 ghost use Rattle.stock_cli.specs.Outcome.{output_of, outcome_of, task_plan, task_status, text_of, AnswerHasText, CanBeDone, Finishes, EndsBy};
 ghost use Rattle.stock_cli.specs.Status.{IsOfWriting};
 
+use crate::any_cert::{AnyCert, write_any};
 use crate::runs::run_network;
 use crate::status::Status;
 use decision_model::Network;
@@ -13,7 +14,6 @@ use node_state::HouseRule;
 use report_text::{Fault, help_text};
 use std::alloc::Global;
 use stock_edge::{Failed, Sink, write_all};
-use value_cert::{Cert, write_cert};
 
 /// What is to be written, before any of it is.
 #[derive(Drop)]
@@ -23,7 +23,7 @@ pub enum Answer {
     /// The text of a check that rejects a certificate.
     Rejection(Text),
     /// A certificate, whose text is made as it is written.
-    Certificate(Cert),
+    Certificate(AnyCert),
     /// The text of `help`.
     Help,
 }
@@ -56,7 +56,7 @@ fn write_answer<O: Sink>(answer: &Answer, out: &mut O) -> Result<(), Failed>
     match answer {
         Answer::Printed(text) => write_all(out, text.bytes()),
         Answer::Rejection(text) => write_all(out, text.bytes()),
-        Answer::Certificate(cert) => write_cert(cert, out),
+        Answer::Certificate(cert) => write_any(cert, out),
         Answer::Help => write_all(out, help_text().as_bytes()),
     }
 }

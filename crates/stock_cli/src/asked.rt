@@ -1,6 +1,6 @@
 // What a command asks for.
 ghost use Rattle.std.specs.Prelude.{◌≡◌};
-ghost use Rattle.stock_cli.specs.Asks.{action_asked, asked_of};
+ghost use Rattle.stock_cli.specs.Asks.{asked_of};
 
 use crate::names::Part;
 use crate::words::{Action, Command};
@@ -14,11 +14,16 @@ pub enum About {
     Part(Part),
 }
 
-/// A question on one instance.
+/// A question on one item of what a command is about.
 #[derive(Clone, Copy, Debug, PartialEq, Eq)]
 pub enum Question {
     Solve,
     Certify,
+}
+
+/// A further question, on an instance of a kind.
+#[derive(Clone, Copy, Debug, PartialEq, Eq)]
+pub enum KindQuestion {
     Demand,
     Simulate,
 }
@@ -27,24 +32,14 @@ pub enum Question {
 /// input.
 #[derive(Clone, Copy, Debug, PartialEq, Eq)]
 pub enum Asked {
-    /// A question on the instance of one input.
-    One(About, Question, Option<usize>),
-    /// Whether a certificate, the second input, certifies an instance, the first.
-    Two(About, Option<usize>, Option<usize>),
+    /// An action on what the command is about.
+    Action(About, Action),
+    /// A further question on the instance of one input.
+    Kind(KindQuestion, Option<usize>),
     /// The trial of a number.
     Number(u32),
     /// The help.
     Nothing,
-}
-
-fn action_asked(about: About, action: Action) -> Asked
-    ensures { result ≡ action_asked about action }
-{
-    match action {
-        Action::Solve(place) => Asked::One(about, Question::Solve, place),
-        Action::Certify(place) => Asked::One(about, Question::Certify, place),
-        Action::Check(instance, cert) => Asked::Two(about, instance, cert),
-    }
 }
 
 /// What a command asks for.
@@ -52,16 +47,18 @@ pub fn asked_of(command: Command) -> Asked
     ensures { result ≡ asked_of command }
 {
     match command {
-        Command::Solve(place) => Asked::One(About::Kinds, Question::Solve, place),
-        Command::Certify(place) => Asked::One(About::Kinds, Question::Certify, place),
-        Command::Demand(place) => Asked::One(About::Kinds, Question::Demand, place),
-        Command::Simulate(place) => Asked::One(About::Kinds, Question::Simulate, place),
-        Command::Check(instance, cert) => Asked::Two(About::Kinds, instance, cert),
+        Command::Solve(place) => Asked::Action(About::Kinds, Action::Solve(place)),
+        Command::Certify(place) => Asked::Action(About::Kinds, Action::Certify(place)),
+        Command::Check(instance, cert) => {
+            Asked::Action(About::Kinds, Action::Check(instance, cert))
+        }
+        Command::Demand(place) => Asked::Kind(KindQuestion::Demand, place),
+        Command::Simulate(place) => Asked::Kind(KindQuestion::Simulate, place),
         Command::Trial(number) => Asked::Number(number),
         Command::Help => Asked::Nothing,
-        Command::Bracket(action) => action_asked(About::Part(Part::Bracket), action),
-        Command::Pipeline(action) => action_asked(About::Part(Part::Pipeline), action),
-        Command::Service(action) => action_asked(About::Part(Part::Service), action),
-        Command::Pairs(action) => action_asked(About::Part(Part::Pairs), action),
+        Command::Bracket(action) => Asked::Action(About::Part(Part::Bracket), action),
+        Command::Pipeline(action) => Asked::Action(About::Part(Part::Pipeline), action),
+        Command::Service(action) => Asked::Action(About::Part(Part::Service), action),
+        Command::Pairs(action) => Asked::Action(About::Part(Part::Pairs), action),
     }
 }

@@ -2,14 +2,13 @@
 ghost use Rattle.std.specs.Prelude.{◌≡◌, ◌≢◌, ◌≤◌, [], None, IfOk, IfErr, OnErr};
 ghost use Rattle.std.specs.Io.{ReadsAtMost};
 ghost use Rattle.std.specs.Io.KnownBytes.{IsAtEnd, Keeps};
-ghost use Rattle.decision_model.specs.declared.instance.Instance.{Instance};
-ghost use Rattle.cert_check.specs.TextChecks.{IsTextCheckOf};
 ghost use Rattle.stock_cli.specs.Causes.{counts_of, RoseAt, IsMissing, NoPiece, NotChecked, file_unchecked};
 ghost use Rattle.stock_cli.specs.Checks.{GivesNext, IsVerdictOn, Reaches};
 ghost use Rattle.stock_cli.specs.Inputs.{origin_of, input_name, content_of};
 
 use crate::inputs::Input;
-use cert_check::{TextCheck, Verdict};
+use crate::takes_text::TakesText;
+use cert_check::Verdict;
 use stock_edge::{Failed, FileFault, Files, Source};
 
 /// How many bytes of a certificate are read at once.
@@ -79,21 +78,21 @@ fn read_piece<I: Source, F: Files>(
 
 /// The verdict on the certificate of an input. It is read no further than to the piece of the first line that is
 /// rejected.
-pub fn check_from<I: Source, F: Files>(
+pub fn check_from<C: TakesText, I: Source, F: Files>(
     from: &Input<'_>,
     input: &mut I,
     files: &mut F,
-    check: &mut TextCheck<'_>,
+    check: &mut C,
 ) -> Result<Verdict, Unchecked>
-    ensures verdict { (instance : Instance) → IsTextCheckOf instance check.old [] →
-        IfOk result (IsVerdictOn instance (content_of (I.left input.old) (F.held files.old) (origin_of from.now))) }
+    ensures verdict { (of : C.check.Of) → C.check.StandsFor of check.old [] →
+        IfOk result (IsVerdictOn (C.check.rules of) (C.check.Claims of) (content_of (I.left input.old) (F.held files.old) (origin_of from.now))) }
     ensures end { IfOk result (λ verdict. verdict ≡ Verdict.Accepted → origin_of from.now ≡ None → IsAtEnd (I.left input.new)) }
     ensures none { IfErr result (NotChecked
         (RoseAt (counts_of (I.faults input.old) (I.faults input.new) (F.faults files.old) (F.faults files.new)) (origin_of from.now))
         (input_name (origin_of from.now))
         (content_of (I.left input.old) (F.held files.old) (origin_of from.now))) }
-    ensures reach { (instance : Instance) → IsTextCheckOf instance check.old [] → origin_of from.now ≡ None →
-        Reaches instance (I.left input.old) (I.left input.new) }
+    ensures reach { (of : C.check.Of) → C.check.StandsFor of check.old [] → origin_of from.now ≡ None →
+        Reaches (C.check.rules of) (I.left input.old) (I.left input.new) }
     ensures later_input { I.faults input.old ≤ I.faults input.new }
     ensures later_files { F.faults files.old ≤ F.faults files.new }
     ensures same_input { origin_of from.now ≢ None → input.new ≡ input.old }

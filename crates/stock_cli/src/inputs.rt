@@ -1,15 +1,14 @@
 // Reading what a command is asked about.
 ghost use Rattle.std.specs.Prelude.{◌≡◌, ◌≢◌, ◌⊎◌, ℕ, ◌≤◌, codes, length, Ok, IfOk, IfErr, OnOk, IfSome, None};
 ghost use Rattle.std.specs.Io.KnownBytes.{IsAtEnd};
-ghost use Rattle.decision_model.specs.Valid.{IsValid};
 ghost use Rattle.stock_edge.specs.Causes.{Rose};
 ghost use Rattle.stock_cli.specs.Causes.{counts_of, FailedAt, NotRead, GivesNone};
 ghost use Rattle.stock_cli.specs.Status.{IsOfInputs};
-ghost use Rattle.stock_cli.specs.Inputs.{word_at, origin_of, input_at, input_name, standard_content, named_content, content_of, SaysInstance};
+ghost use Rattle.stock_cli.specs.Inputs.{word_at, origin_of, input_at, input_name, standard_content, named_content, content_of};
+ghost use Rattle.stock_cli.specs.Subjects.{SaysItem};
 
-use decision_model::Instance;
+use crate::subject::Subject;
 use fraction128::{Memory, Text};
-use instance_json::read_instance;
 use report_text::Fault;
 use std::alloc::Global;
 use stock_edge::{FileErr, Files, ReadErr, Source, read_all, read_file};
@@ -147,17 +146,17 @@ fn read_input<I: Source, F: Files>(
     }
 }
 
-/// The instance of an input.
-pub fn read_from<I: Source, F: Files>(
+/// The item of an input.
+pub fn read_from<S: Subject, I: Source, F: Files>(
     alloc: Global,
     from: &Input<'_>,
     input: &mut I,
     files: &mut F,
-) -> Result<Instance, Fault>
-    ensures said { IfOk result (λ instance. IfSome (content_of (I.left input.old) (F.held files.old) (origin_of from.now)) (λ found. SaysInstance found instance)) }
-    ensures valid { IfOk result IsValid }
+) -> Result<S::Item, Fault>
+    ensures said { IfOk result (λ item. IfSome (content_of (I.left input.old) (F.held files.old) (origin_of from.now)) (λ found. SaysItem S.subject found item)) }
+    ensures valid { IfOk result S.subject.IsValid }
     ensures end { OnOk result (origin_of from.now ≡ None → IsAtEnd (I.left input.new)) }
-    ensures none { IfErr result (GivesNone
+    ensures none { IfErr result (GivesNone S.subject
         (FailedAt (counts_of (I.faults input.old) (I.faults input.new) (F.faults files.old) (F.faults files.new)) (origin_of from.now))
         (content_of (I.left input.old) (F.held files.old) (origin_of from.now))) }
     ensures later_input { I.faults input.old ≤ I.faults input.new }
@@ -168,6 +167,6 @@ pub fn read_from<I: Source, F: Files>(
     ensures same_files { origin_of from.now ≡ None → files.new ≡ files.old }
 {
     let bytes = read_input(alloc, from, input, files)?;
-    let instance = read_instance(alloc, &bytes)?;
-    Ok(instance)
+    let item = S::read(alloc, &bytes)?;
+    Ok(item)
 }

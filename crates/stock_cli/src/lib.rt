@@ -3,6 +3,7 @@
 #![tactic(auto)]
 
 mod answers;
+mod any_cert;
 mod asked;
 mod certificates;
 mod certify;
@@ -10,12 +11,14 @@ mod check;
 mod commands;
 mod demand;
 mod inputs;
+mod kinds;
 mod names;
 mod runs;
 mod simulate;
 mod solve;
-mod solvers;
 mod status;
+mod subject;
+mod takes_text;
 mod top;
 mod trial;
 mod words;

@@ -161,8 +161,8 @@ pub fn run_rows<K: Sink>(
 // A simulator of a network with these rules.
 fn simulator(alloc: Global, net: &Network, rules: Vec<Box<dyn HouseRule>>) -> Result<Sim, Fault>
     requires { IsValidNetwork net.now }
-    ensures stands { IfOk result (λ sim. Stands net.now (map (λ b. (⟦<dyn HouseRule as HouseRule>⟧ b.vtable).meaning b.value) rules.items) 0 sim (map (λ b. (⟦<dyn HouseRule as HouseRule>⟧ b.vtable).meaning b.value) sim.rules.items)) }
-    ensures refused { IfErr result (IsRefusedBy (rules_refusal net.now.nodes (map (λ b. (⟦<dyn HouseRule as HouseRule>⟧ b.vtable).meaning b.value) rules.items))) }
+    ensures stands { IfOk result (λ sim. Stands net.now (map meaning rules.items) 0 sim (map meaning sim.rules.items)) }
+    ensures refused { IfErr result (IsRefusedBy (rules_refusal net.now.nodes (map meaning rules.items))) }
 {
     match Sim::new(alloc, net, rules) {
         Ok(sim) => Ok(sim),
@@ -181,9 +181,9 @@ pub(crate) fn run_network<K: Sink>(
     out: &mut K,
 ) -> Result<(), Fault>
     requires { IsValidNetwork net.now }
-    ensures whole { OnOk result (Finishes (network_outcome net.now (map (λ b. (⟦<dyn HouseRule as HouseRule>⟧ b.vtable).meaning b.value) rules.items)) Status.Done (K.written out.old) (K.written out.new)) }
-    ensures part { AppendsPrefix (K.written out.old) (K.written out.new) (text_of (network_outcome net.now (map (λ b. (⟦<dyn HouseRule as HouseRule>⟧ b.vtable).meaning b.value) rules.items))) }
-    ensures cut { IfErr result (EndsBy (Rose (K.faults out.old) (K.faults out.new)) (network_outcome net.now (map (λ b. (⟦<dyn HouseRule as HouseRule>⟧ b.vtable).meaning b.value) rules.items)) (K.written out.old) (K.written out.new)) }
+    ensures whole { OnOk result (Finishes (network_outcome net.now (map meaning rules.items)) Status.Done (K.written out.old) (K.written out.new)) }
+    ensures part { AppendsPrefix (K.written out.old) (K.written out.new) (text_of (network_outcome net.now (map meaning rules.items))) }
+    ensures cut { IfErr result (EndsBy (Rose (K.faults out.old) (K.faults out.new)) (network_outcome net.now (map meaning rules.items)) (K.written out.old) (K.written out.new)) }
     ensures of_writing { IfErr result IsOfWriting }
     ensures later { K.faults out.old ≤ K.faults out.new }
 {

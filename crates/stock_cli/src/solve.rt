@@ -1,29 +1,28 @@
 // The command `solve`.
 ghost use Rattle.std.specs.Prelude.{◌≡◌, Ok, IfOk, IfErr};
-ghost use Rattle.decision_model.specs.Valid.{IsValid};
 ghost use Rattle.stock_cli.specs.Causes.{HasNoAnswer};
-ghost use Rattle.stock_cli.specs.Claims.{IsReport};
-ghost use Rattle.stock_cli.specs.Outcome.{solve_outcome, output_of, written, AnswerHasText};
+ghost use Rattle.stock_cli.specs.Endings.{question_outcome};
+ghost use Rattle.stock_cli.specs.Outcome.{output_of, written, AnswerHasText};
+ghost use Rattle.stock_cli.specs.Subjects.{IsReport};
 
 use crate::answers::Answer;
 use crate::asked::Question;
-use crate::solvers::solver_of;
 use crate::status::Status;
-use decision_model::Instance;
-use report_text::{Fault, report};
+use crate::subject::Subject;
+use report_text::Fault;
 use std::alloc::Global;
 
 /// The report of an optimal policy.
-pub fn solve(alloc: Global, instance: &Instance) -> Result<Answer, Fault>
-    requires { IsValid instance.now }
-    ensures ok { IfOk result (λ answer. solve_outcome instance.now ≡ Ok (written answer)) }
-    ensures report { IfOk result (λ answer. IsReport (output_of answer).text instance.now) }
+pub fn solve<S: Subject>(alloc: Global, item: &S::Item) -> Result<Answer, Fault>
+    requires { S.subject.IsValid item.now }
+    ensures ok { IfOk result (λ answer. question_outcome S.subject Question.Solve item.now ≡ Ok (written answer)) }
+    ensures report { IfOk result (λ answer. IsReport S.subject item.now (output_of answer).text) }
     ensures done { IfOk result (λ answer. (output_of answer).status ≡ Status.Done) }
     ensures has_text { IfOk result AnswerHasText }
-    ensures none { IfErr result (HasNoAnswer Question.Solve instance.now) }
+    ensures none { IfErr result (HasNoAnswer (question_outcome S.subject Question.Solve item.now)) }
 {
-    let solver = solver_of(instance)?;
-    let cert = solver.certificate(alloc)?;
-    let text = report(alloc, instance, &cert)?;
+    S::solvable(item)?;
+    let cert = S::solve(alloc, item)?;
+    let text = S::report(alloc, item, &cert)?;
     Ok(Answer::Printed(text))
 }

@@ -5,18 +5,18 @@ ghost use Rattle.std.specs.declared.option.Option.{Option};
 ghost use Rattle.stock_edge.specs.Causes.{Rose, AppendsPrefix};
 ghost use Rattle.stock_cli.specs.Asks.{asked_of};
 ghost use Rattle.stock_cli.specs.Causes.{words_fault, IsCheck, TakesInput, ReadsInput, ReadsNoFile, counts_of, FailsOne, IsUnread, IsRefused, IsToldOf, IsTold, HasMessage};
-ghost use Rattle.stock_cli.specs.Checks.{ReachesFor};
-ghost use Rattle.stock_cli.specs.Claims.{Claims, PlanClaims};
-ghost use Rattle.stock_cli.specs.Inputs.{content_of, input_at};
-ghost use Rattle.stock_cli.specs.Outcome.{ending_of, plan_of, status_of_outcome, task_plan, task_status, text_of, CanBeDone};
+ghost use Rattle.stock_cli.specs.Commands.{ending_of, plan_of, Claims, PlanClaims};
+ghost use Rattle.stock_cli.specs.Inputs.{contents};
+ghost use Rattle.stock_cli.specs.Outcome.{status_of_outcome, task_plan, task_status, text_of, CanBeDone};
 ghost use Rattle.stock_cli.specs.Status.{IsDecided, IsOfInputs, WritesNothing};
+ghost use Rattle.stock_cli.specs.Told.{told_of};
 ghost use Rattle.stock_cli.specs.Words.{command_of};
 
 use crate::answers::{Answer, Task, perform_task, status_with};
-use crate::asked::asked_of;
+use crate::asked::{About, Asked, asked_of};
 use crate::commands::task_of;
 use crate::status::{Status, status_for};
-use crate::words::{Command, read_words};
+use crate::words::{Action, Command, read_words};
 use fraction128::Memory;
 use node_state::HouseRule;
 use report_text::{Fault, cannot_write_text, fault_text};
@@ -47,8 +47,9 @@ fn perform<I: Source, F: Files>(
     ensures later_files { F.faults files.old ≤ F.faults files.new }
     ensures spared_input { (ReadsInput (I.left input.old) (F.held files.old) words.now (command_of words.now) None → ⊥) → input.new ≡ input.old }
     ensures spared_files { ReadsNoFile (ReadsInput (I.left input.old) (F.held files.old) words.now (command_of words.now)) → files.new ≡ files.old }
-    ensures reach { (place : Option ℕ) → command_of words.now ≡ Ok (Command.Check place None) → (input.new ≡ input.old) ⊎
-        ReachesFor (content_of (I.left input.old) (F.held files.old) (input_at words.now place)) (I.left input.old) (I.left input.new) }
+    ensures reach { (command : Command) (about : About) (place : Option ℕ) → command_of words.now ≡ Ok command →
+        asked_of command ≡ Asked.Action about (Action.Check place None) → (input.new ≡ input.old) ⊎
+        (told_of about).Reaches (contents (I.left input.old) (F.held files.old) words.now place) (I.left input.old) (I.left input.new) }
 {
     match read_words(words) {
         Ok(command) => task_of(alloc, words, asked_of(command), input, files),
@@ -138,8 +139,9 @@ pub fn stock<I: Source, F: Files, O: Sink, E: Sink>(
         input.new ≡ input.old }
     ensures files_spared { ReadsNoFile (ReadsInput (I.left input.old) (F.held files.old) words.now (command_of words.now)) → files.new ≡ files.old }
     // A check takes at most 4,224 bytes of standard input past the lines of its certificate that all pass, or none.
-    ensures reach { (place : Option ℕ) → command_of words.now ≡ Ok (Command.Check place None) → (input.new ≡ input.old) ⊎
-        ReachesFor (content_of (I.left input.old) (F.held files.old) (input_at words.now place)) (I.left input.old) (I.left input.new) }
+    ensures reach { (command : Command) (about : About) (place : Option ℕ) → command_of words.now ≡ Ok command →
+        asked_of command ≡ Asked.Action about (Action.Check place None) → (input.new ≡ input.old) ⊎
+        (told_of about).Reaches (contents (I.left input.old) (F.held files.old) words.now place) (I.left input.old) (I.left input.new) }
 
     // What stands on `err`.
     ensures message { HasMessage result → IsTold

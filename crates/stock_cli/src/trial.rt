@@ -3,9 +3,8 @@ ghost use Rattle.std.specs.Prelude.{◌≡◌, ◌++◌, [], length, map, Some, 
 ghost use Rattle.decision_model.specs.Network.{IsValidNetwork};
 ghost use Rattle.decision_model.specs.Valid.{IsValid};
 ghost use Rattle.node_state.specs.Table.{network_total};
-ghost use Rattle.value_cert.specs.Meaning.{Certifies, solved_cert};
+ghost use Rattle.value_cert.specs.Meaning.{solved_cert};
 ghost use Rattle.value_cert.specs.Texts.{HasText};
-ghost use Rattle.cert_check.specs.Meaning.{IsTyped};
 ghost use Rattle.trial_instances.specs.News.{trial_news};
 ghost use Rattle.trial_instances.specs.Lots.{trial_lots};
 ghost use Rattle.trial_instances.specs.Finite.{trial_finite};
@@ -13,10 +12,10 @@ ghost use Rattle.trial_instances.specs.Average.{trial_average};
 ghost use Rattle.trial_instances.specs.Serial.{trial_serial};
 ghost use Rattle.trial_instances.specs.Network.{trial_network};
 ghost use Rattle.stock_cli.specs.Runs.{Stands};
-ghost use Rattle.stock_cli.specs.Solvers.{IsBuilt};
 ghost use Rattle.stock_cli.specs.Trial.{IsNetwork, IsTried, solved_line, solved_lines, network_line, network_line_of, trial_text};
 
-use crate::solvers::solver_of;
+use crate::kinds::Kinds;
+use crate::subject::Subject;
 use cert_check::{Verdict, verdict};
 use decision_model::{Instance, Network};
 use fraction128::{Memory, Text};
@@ -69,24 +68,9 @@ fn reread(alloc: Global, instance: &Instance) -> Result<Instance, Memory>
     }
 }
 
-// The certificate of the solver of an instance's kind.
-fn certificate(alloc: Global, instance: &Instance) -> Result<Cert, Memory>
-    requires valid { IsValid instance.now }
-    requires built { IsBuilt instance.now }
-    ensures solved { IfOk result (λ cert. solved_cert instance.now ≡ Some cert) }
-    ensures certifies { IfOk result (Certifies instance.now) }
-    ensures has_text { IfOk result HasText }
-{
-    match solver_of(instance) {
-        Ok(solver) => solver.certificate(alloc),
-        Err(_) => unreachable!(),
-    }
-}
-
 // Writes the solver's certificate and has it checked.
 fn accept(alloc: Global, instance: &Instance, cert: &Cert) -> Result<(), Memory>
     requires valid { IsValid instance.now }
-    requires typed { IsTyped instance.now }
     requires solved { solved_cert instance.now ≡ Some cert.now }
     requires has_text { HasText cert.now }
 {
@@ -109,7 +93,7 @@ fn push_solved(out: &mut Text, alloc: Global, made: &Instance) -> Result<(), Mem
     ensures { OnOk result (out.new ≡ out.old ++ solved_line made.now) }
 {
     let instance = reread(alloc, made)?;
-    let cert = certificate(alloc, &instance)?;
+    let cert = Kinds::solve(alloc, &instance)?;
     accept(alloc, &instance, &cert)?;
     push_certified(out, &instance, &cert)
 }

@@ -6,11 +6,11 @@ use Rattle.std.proofs.lemmas.Bool.{le-leb}
 use Rattle.std.proofs.lemmas.Int.{ints}
 use Rattle.std.proofs.lemmas.List.Elements.{All-cons, All-nil}
 use Rattle.demand_law.specs.Named.{uniform_law}
-use Rattle.decision_model.specs.declared.network.Network.{Network}
-use Rattle.decision_model.specs.declared.network.NodeSpec.{NodeSpec}
-use Rattle.decision_model.specs.declared.network.Link.{Link}
-use Rattle.decision_model.specs.declared.network.Rule.TheVariants.{Base, MinMax, Lot}
-use Rattle.decision_model.specs.declared.network.Demand.TheVariants.{Nobody, Drawn}
+use Rattle.network_model.specs.declared.network.Network.{Network}
+use Rattle.network_model.specs.declared.network.NodeSpec.{NodeSpec}
+use Rattle.network_model.specs.declared.network.Link.{Link}
+use Rattle.network_model.specs.declared.network.Rule.TheVariants.{Base, MinMax, Lot}
+use Rattle.network_model.specs.declared.network.Demand.TheVariants.{Nobody, Drawn}
 use Rattle.decision_model.specs.declared.instance.Instance.TheVariants as instance
 use Rattle.decision_model.specs.Valid.{IsValid}
 use Rattle.decision_model.specs.Nodes.{IsReadableNode, IsReadableLink, is_node_name, first_failing}

@@ -3,7 +3,7 @@ use Rattle.std.specs.Prelude.{◌≡◌, true, None, IsTrue, ⊤}
 use Rattle.decision_model.specs.declared.instance.Instance.{Instance}
 use Rattle.decision_model.specs.declared.instance.Instance.TheVariants.{News, Lots, Finite, Average, Serial, Network}
 use Rattle.decision_model.specs.declared.average.Average as average
-use Rattle.decision_model.specs.declared.network.Network as network
+use Rattle.network_model.specs.declared.network.Network as network
 use Rattle.decision_model.specs.Lots.{HasNoSpeculation}
 use Rattle.decision_model.specs.Average.{HasDemand, IsUnitDemand}
 use Rattle.decision_model.specs.Network.{is_seeded}

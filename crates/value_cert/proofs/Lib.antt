@@ -1,4 +1,5 @@
 pub mod Writing
+pub mod FlatWriting
 pub mod Orders
 mod StartValues
 pub mod DigitFacts

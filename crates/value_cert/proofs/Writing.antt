@@ -25,7 +25,7 @@ pub took_none : (a : Output) → Took a a []
 took_none a = record { out = []; appended = appends_none a.written; whole = append-nil a.pending; later = omega arith }
 
 -- what a piece holds behind a text that was taken
-taken : (a b : Output) (s t : List ℕ) (h : Took a b s) → a.pending ++ (s ++ t) ≡ h.out ++ (b.pending ++ t)
+pub taken : (a b : Output) (s t : List ℕ) (h : Took a b s) → a.pending ++ (s ++ t) ≡ h.out ++ (b.pending ++ t)
 taken a b s t h = sym (append_assoc a.pending s t) ∙ ap (λ x. x ++ t) h.whole ∙ append_assoc h.out b.pending t
 
 -- a text was taken, and then a further one

@@ -2,6 +2,7 @@
 use Rattle.std.specs.Prelude.{◌<◌, List, ◌∷◌, map, length, Bool, true, false, pos}
 use Rattle.decision_model.specs.declared.kinds.Kind.TheVariants as kind
 use Rattle.value_cert.specs.Contents.{Contents, Table}
+use Rattle.value_cert.specs.Headings.{plain_heading}
 use Rattle.value_cert.specs.Numbers.{is_no_discount}
 use Rattle.value_cert.specs.declared.average.AverageCell.{AverageCell}
 use Rattle.value_cert.specs.declared.average.AverageCert.{AverageCert}
@@ -18,7 +19,7 @@ abbrev pub average_lines : AverageCert → List CertLine
 average_lines c = Gain (pos c.num) (pos c.den) ∷ Pair c.low c.high ∷ map point_line c.cells
 
 abbrev pub average_contents : AverageCert → Contents
-average_contents c = record { kind = kind.Average; num = pos 1; den = pos 1; lines = average_lines c; complete = 0 < length c.cells }
+average_contents c = record { head = plain_heading kind.Average; lines = average_lines c; complete = 0 < length c.cells }
 
 abbrev pub average_follows : Tag → Tag → Bool
 average_follows tag.Head tag.Gain = true

@@ -1,22 +1,20 @@
 -- What a certificate of an average cost has to say, line by line and as a whole. Its lines have the positions from the
 -- floor up.
-use Rattle.std.specs.Prelude.{◌≡◌, ℕ, ◌+◌, ◌*◌, ◌^◌, max, ◌≤◌, List, [], ◌∷◌, ◌++◌, length, map, slice_index, sum, Bool, true, false, ◌&&◌, ◌==◌, if◌then◌else◌, nat_le, nat_lt, ℤ, pos, ◌-ℤ◌, int_le, int_lt, unsigned_abs, Option, Some, None}
+use Rattle.std.specs.Prelude.{◌≡◌, ℕ, ◌+◌, ◌*◌, ◌^◌, max, ◌≤◌, List, [], ◌∷◌, ◌++◌, length, map, slice_index, sum, Bool, true, ◌&&◌, ◌==◌, if◌then◌else◌, nat_le, nat_lt, ℤ, pos, ◌-ℤ◌, int_le, int_lt, unsigned_abs, Option, Some, None}
 use Rattle.std.specs.List.{range_with_len}
 use Rattle.fraction128.specs.Reduced.{gcd_of, lowest_num, lowest_den}
 use Rattle.decision_model.specs.declared.average.Average.{Average}
 use Rattle.decision_model.specs.Average.{average_positions}
-use Rattle.decision_model.specs.declared.kinds.Kind.{Kind}
-use Rattle.decision_model.specs.declared.kinds.Kind.TheVariants as kind
 use Rattle.value_cert.specs.AverageLeast.{pair_policy, AverageLeast, MeetsEquations}
 use Rattle.value_cert.specs.AverageValues.{Ratio, moving, at_place, limit, gain, loss, is_cheap, lower_entries, upper_entries, is_zero_place, first_passing, greatest_den, greatest_num, average_cost_of}
-use Rattle.value_cert.specs.Numbers.{is_number, is_one}
+use Rattle.value_cert.specs.Numbers.{is_number}
 use Rattle.value_cert.specs.Rules.{Rules}
 use Rattle.value_cert.specs.Standard.{Standard}
 use Rattle.value_cert.specs.declared.average.AverageCert.{AverageCert}
 use Rattle.value_cert.specs.declared.cert.Cert.{Cert}
 use Rattle.value_cert.specs.declared.cert.Cert.TheVariants as cert
 use Rattle.value_cert.specs.declared.line.CertLine.{CertLine}
-use Rattle.value_cert.specs.declared.line.CertLine.TheVariants.{Head, Gain, Pair, Point, End}
+use Rattle.value_cert.specs.declared.line.CertLine.TheVariants.{Gain, Pair, Point, End}
 
 -- ---- what the lines so far name
 -- the average cost, the pair, and the entries of the first places, which begin anew behind an average cost
@@ -39,11 +37,6 @@ named_points first (Point at lower upper) =
 named_points first _ = first
 
 -- ---- rules
--- the head has the average kind, and no discount
-abbrev pub is_average_head : Kind → ℤ → ℤ → Bool
-is_average_head kind.Average num den = is_one num den
-is_average_head _ num den = false
-
 -- the average cost is in lowest terms, and both its numbers are in range (3)
 abbrev pub is_gain : Average → ℕ → ℕ → Bool
 is_gain item num den =
@@ -91,7 +84,6 @@ are_points_whole item first = length first.lower == average_positions item
 
 -- the least rule from 2 on that a line breaks behind the lines that name these
 abbrev pub average_rule : Average → FirstPoints → CertLine → Option ℕ
-average_rule item first (Head kind num den) = if is_average_head kind num den then None else Some 2
 average_rule item first (Gain num den) = if is_gain item (unsigned_abs num) (unsigned_abs den) then None else Some 3
 average_rule item first (Pair low high) = if is_pair item low high then None else Some 4
 average_rule item first (Point at lower upper) = point_rule item first at (unsigned_abs lower) (unsigned_abs upper)

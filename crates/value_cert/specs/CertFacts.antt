@@ -52,7 +52,7 @@ cert_in which = (kind_facts which).0
 pub facts_of : (which : Kind) → KindFacts which (cert_in which)
 facts_of which = (kind_facts which).1
 
-told : (c : Cert) → IsTold c (cert_in (contents_of c).kind)
+told : (c : Cert) → IsTold c (cert_in (contents_of c).head.kind)
 told (cert.News c) = news_is_told c
 told (cert.Lots c) = lots_is_told c
 told (cert.Finite c) = finite_is_told c

@@ -1,7 +1,8 @@
 -- What each kind of certificates states of itself.
-use Rattle.std.specs.Prelude.{List, [], ◌∷◌, Bool, ℤ}
-use Rattle.decision_model.specs.declared.kinds.Kind.{Kind}
+use Rattle.std.specs.Prelude.{List, [], ◌∷◌, Bool, ℤ, pos}
+use Rattle.value_cert.specs.declared.heading.Heading.{Heading}
 use Rattle.value_cert.specs.declared.line.CertLine.{CertLine}
+use Rattle.value_cert.specs.declared.line.CertLine.TheVariants.{Head}
 use Rattle.value_cert.specs.declared.line.Tag.{Tag}
 
 -- which discounts the head may have, and which lines may stand behind one another
@@ -9,14 +10,15 @@ pub record Table : Type 0 where
   pub discount : ℤ → ℤ → Bool
   pub follows : Tag → Tag → Bool
 
--- what a certificate holds: the kind and the discount of its head, the lines between the head and the end, and whether
--- each list of it has as many entries as it must
+-- what a certificate holds: what its head says, the lines between the head and the end, and whether each list of it has
+-- as many entries as it must
 pub record Contents : Type 1 where
-  pub kind : Kind
-  pub num : ℤ
-  pub den : ℤ
+  pub head : Heading
   pub lines : List CertLine
   pub complete : Type 0
+
+abbrev pub head_line : Heading → CertLine
+head_line heading = Head heading.kind (pos heading.num) (pos heading.den)
 
 -- each of them is so
 abbrev pub EachIs : {X : Type 0} → (X → Type 0) → List X → Type 0

@@ -28,8 +28,11 @@ pub record HasRows (c : FiniteCert) : Type 0 where
   pub each : EachIs HasValues c.rows
 
 abbrev pub finite_contents : FiniteCert → Contents
-finite_contents c =
-    record { kind = kind.Finite; num = pos c.discount_num; den = pos c.discount_den; lines = flat_map row_lines c.rows; complete = HasRows c }
+finite_contents c = record {
+  head = record { kind = kind.Finite; num = c.discount_num; den = c.discount_den };
+  lines = flat_map row_lines c.rows;
+  complete = HasRows c;
+}
 
 abbrev pub finite_follows : Tag → Tag → Bool
 finite_follows tag.Head tag.Period = true

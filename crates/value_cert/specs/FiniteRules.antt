@@ -1,11 +1,9 @@
 -- What a certificate of a finite horizon has to say, line by line and as a whole. A row has the positions of one period,
 -- from the cap down.
-use Rattle.std.specs.Prelude.{◌≡◌, ℕ, suc, ◌-◌, ◌<◌, List, [], ◌∷◌, ◌++◌, length, map, slice_index_or, Bool, false, ◌&&◌, ◌||◌, not, ◌==◌, if◌then◌else◌, nat_le, nat_lt, ℤ, pos, ◌+ℤ◌, ◌-ℤ◌, int_le, Option, Some, None}
+use Rattle.std.specs.Prelude.{◌≡◌, ℕ, suc, ◌-◌, ◌<◌, List, [], ◌∷◌, ◌++◌, length, map, slice_index_or, Bool, ◌&&◌, ◌||◌, not, ◌==◌, if◌then◌else◌, nat_le, nat_lt, ℤ, pos, ◌+ℤ◌, ◌-ℤ◌, int_le, Option, Some, None}
 use Rattle.std.specs.List.{list_all, range_with_len}
 use Rattle.fraction128.specs.Reduced.{lowest_num, lowest_den}
 use Rattle.decision_model.specs.declared.finite.Finite.{Finite}
-use Rattle.decision_model.specs.declared.kinds.Kind.{Kind}
-use Rattle.decision_model.specs.declared.kinds.Kind.TheVariants as kind
 use Rattle.decision_model.specs.FiniteProblem.{finite_problem, top}
 use Rattle.decision_model.specs.Policies.{Least}
 use Rattle.decision_model.specs.Positions.{above_zero}
@@ -19,7 +17,7 @@ use Rattle.value_cert.specs.declared.finite.FiniteCell.{FiniteCell}
 use Rattle.value_cert.specs.declared.finite.FiniteCert.{FiniteCert}
 use Rattle.value_cert.specs.declared.finite.FiniteRow.{FiniteRow}
 use Rattle.value_cert.specs.declared.line.CertLine.{CertLine}
-use Rattle.value_cert.specs.declared.line.CertLine.TheVariants.{Head, Period, Value, End}
+use Rattle.value_cert.specs.declared.line.CertLine.TheVariants.{Period, Value, End}
 
 -- ---- what the lines so far name
 -- how many periods have a row, begun or whole, the values of the period after the last one, and those of the last row from the cap down
@@ -53,11 +51,6 @@ named_values finite first (Value at to value) = record { rows = first.rows; late
 named_values finite first _ = first
 
 -- ---- rules
--- the head has the finite kind and the instance's discount
-abbrev pub is_finite_head : Finite → Kind → ℤ → ℤ → Bool
-is_finite_head finite kind.Finite num den = is_number (pos finite.discount_num) num && is_number (pos finite.discount_den) den
-is_finite_head finite _ num den = false
-
 -- the next period is this one, and the row before it is whole
 abbrev pub is_next_period : Finite → FirstRows → ℤ → Bool
 is_next_period finite first period =
@@ -97,7 +90,6 @@ are_rows_whole finite first = is_row_whole finite first && (first.rows == finite
 
 -- the least rule from 2 on that a line breaks behind the lines that name these
 abbrev pub finite_rule : Finite → FirstRows → CertLine → Option ℕ
-finite_rule finite first (Head kind num den) = if is_finite_head finite kind num den then None else Some 2
 finite_rule finite first (Period period) = if is_next_period finite first period then None else Some 2
 finite_rule finite first (Value at to value) = position_rule finite first at to value
 finite_rule finite first End = if are_rows_whole finite first then None else Some 2

@@ -55,7 +55,7 @@ numbers_of-numerals (number ∷ numbers) whole =
     rw (word_number-signed_decimal number tests.0, numbers_of-numerals numbers tests.1) refl
 
 -- ---- a row and its numbers
-zero_is : (z : ℤ) → is_zero z ≡ true → z ≡ pos 0
+pub zero_is : (z : ℤ) → is_zero z ≡ true → z ≡ pos 0
 zero_is z h = (Decides-int_eq z (pos 0)).0 h
 
 pub record IsRow (tag count : ℕ) (a b c e : ℤ) : Type 0 where

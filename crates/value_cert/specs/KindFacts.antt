@@ -1,13 +1,14 @@
 -- What is proved of each kind of certificates.
-use Rattle.std.proofs.Common.{◌≡◌, List, [], ◌∷◌, ◌++◌, true, false, ℤ, pos, negsuc, Some, refl, ap, arith}
+use Rattle.std.proofs.Common.{◌≡◌, List, [], ◌∷◌, ◌++◌, true, false, ℤ, pos, negsuc, Some, refl, sym}
 use Rattle.std.specs.Prelude.{◌&&◌, int_le, unsigned_abs}
-use Rattle.std.proofs.lemmas.Bool.{leb-true, false≢true}
+use Rattle.std.proofs.lemmas.Bool.{false≢true}
 use Rattle.decision_model.specs.declared.kinds.Kind.{Kind}
 use Rattle.value_cert.specs.Grammar.{takes_discount, place_from, has_ended}
 use Rattle.value_cert.specs.GrammarFacts.{walk_from}
 use Rattle.value_cert.specs.Kinds.{contents_of, table_of, has_certificates}
 use Rattle.value_cert.specs.NumberFacts.{both}
 use Rattle.value_cert.specs.Numbers.{is_natural, is_discount, is_one, is_no_discount, is_number}
+use Rattle.value_cert.specs.RuleTests.{same_number}
 use Rattle.value_cert.specs.Texts.{cert_lines, IsComplete}
 use Rattle.value_cert.specs.declared.cert.Cert.{Cert}
 use Rattle.value_cert.specs.declared.line.CertLine.{CertLine}
@@ -39,8 +40,8 @@ pub record KindFacts (kind : Kind) (cert_in : ℤ → ℤ → List CertLine → 
 
 -- a certificate is what its lines tell, and behind them it has ended
 pub record IsTold (c : Cert) (cert_in : ℤ → ℤ → List CertLine → Cert) : Type 0 where
-  pub is : IsComplete c → cert_in (contents_of c).num (contents_of c).den ((contents_of c).lines ++ End ∷ []) ≡ c
-  pub ends : IsComplete c → has_ended (walk_from (Some (place.Behind (contents_of c).kind tag.Head)) ((contents_of c).lines ++ End ∷ [])) ≡ true
+  pub is : IsComplete c → cert_in (pos (contents_of c).head.num) (pos (contents_of c).head.den) ((contents_of c).lines ++ End ∷ []) ≡ c
+  pub ends : IsComplete c → has_ended (walk_from (Some (place.Behind (contents_of c).head.kind tag.Head)) ((contents_of c).lines ++ End ∷ [])) ≡ true
 
 -- a natural number is one of ℕ
 pub natural_is : (z : ℤ) → is_natural z ≡ true → pos (unsigned_abs z) ≡ z
@@ -57,15 +58,7 @@ discount_is (negsuc num) den h = cc
 pub one_is : (num den : ℤ) → is_one num den ≡ true → (num ≡ pos 1) × (den ≡ pos 1)
 one_is num den h =
     let one = both (is_number (pos 1) num) (is_number (pos 1) den) h in
-    (number_one num one.0, number_one den one.1)
-  where
-    number_one : (z : ℤ) → is_number (pos 1) z ≡ true → z ≡ pos 1
-    number_one (pos n) t =
-        let tests = both (int_le (pos 1) (pos n)) (int_le (pos n) (pos 1)) t in
-        let low = leb-true 1 n tests.0 in
-        let high = leb-true n 1 tests.1 in
-        ap pos (omega arith)
-    number_one (negsuc n) t = absurd (false≢true t)
+    (sym (same_number (pos 1) num one.0), sym (same_number (pos 1) den one.1))
 
 -- no discount is the discount 1/1
 pub no_discount_small : (num den : ℤ) → is_no_discount num den ≡ true → is_discount num den ≡ true

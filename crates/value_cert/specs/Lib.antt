@@ -1,6 +1,8 @@
 pub mod Numbers
 pub mod Lines
 pub mod Tags
+pub mod Rules
+pub mod Headings
 pub mod Contents
 pub mod News
 pub mod Lots
@@ -14,6 +16,7 @@ pub mod Writes
 pub mod Parsing
 pub mod LineWords
 pub mod Digits
+pub mod RuleTests
 pub mod GrammarFacts
 pub mod NumberFacts
 pub mod KindWords
@@ -29,7 +32,6 @@ pub mod TextFacts
 pub mod CertGrammar
 pub mod Reading
 pub mod ReadingFacts
-pub mod Rules
 pub mod Kept
 pub mod Standard
 pub mod NewsRules
@@ -52,3 +54,9 @@ pub mod FlatLines
 pub mod FlatFacts
 pub mod FlatGrammar
 pub mod FlatReading
+pub mod FlatKept
+pub mod FlatWrites
+pub mod BracketValues
+pub mod Bracket
+pub mod BracketLeast
+pub mod BracketRules

@@ -2,6 +2,7 @@
 use Rattle.std.specs.Prelude.{◌≡◌, ◌<◌, ℕ, List, [], ◌∷◌, ◌++◌, length, Bool, true, false, pos}
 use Rattle.decision_model.specs.declared.kinds.Kind.TheVariants as kind
 use Rattle.value_cert.specs.Contents.{Contents, Table}
+use Rattle.value_cert.specs.Headings.{plain_heading}
 use Rattle.value_cert.specs.Numbers.{is_no_discount}
 use Rattle.value_cert.specs.declared.line.CertLine.{CertLine}
 use Rattle.value_cert.specs.declared.line.CertLine.TheVariants.{Order, Cost}
@@ -24,7 +25,7 @@ pub record HasOrders (c : LotCert) : Type 0 where
   pub each : length c.duals ≡ length c.orders
 
 abbrev pub lot_contents : LotCert → Contents
-lot_contents c = record { kind = kind.Lots; num = pos 1; den = pos 1; lines = lot_lines c; complete = HasOrders c }
+lot_contents c = record { head = plain_heading kind.Lots; lines = lot_lines c; complete = HasOrders c }
 
 abbrev pub lot_follows : Tag → Tag → Bool
 lot_follows tag.Head tag.Order = true

@@ -1,19 +1,17 @@
 -- What a certificate of a lot plan has to say, line by line and as a whole. Periods are places of lists, from 0.
-use Rattle.std.specs.Prelude.{◌≡◌, ℕ, ◌+◌, ◌-◌, ◌<◌, List, [], ◌∷◌, ◌++◌, length, slice_index, sum, take, Bool, false, ◌&&◌, ◌||◌, not, nat_le, nat_lt, ◌==◌, if◌then◌else◌, ℤ, pos, unsigned_abs, Option, Some, None}
+use Rattle.std.specs.Prelude.{◌≡◌, ℕ, ◌+◌, ◌-◌, ◌<◌, List, [], ◌∷◌, ◌++◌, length, slice_index, sum, take, Bool, ◌&&◌, ◌||◌, not, nat_le, nat_lt, ◌==◌, if◌then◌else◌, ℤ, pos, unsigned_abs, Option, Some, None}
 use Rattle.std.specs.List.{list_all, range_with_len, sum_by}
 use Rattle.decision_model.specs.declared.lots.LotSize.{LotSize}
-use Rattle.decision_model.specs.declared.kinds.Kind.{Kind}
-use Rattle.decision_model.specs.declared.kinds.Kind.TheVariants as kind
 use Rattle.value_cert.specs.LotPlans.{demand_upto, plan_cost, serving_cost, LeastPlan}
 use Rattle.value_cert.specs.LotRecursion.{solved_lots}
-use Rattle.value_cert.specs.Numbers.{is_number, is_one}
+use Rattle.value_cert.specs.Numbers.{is_number}
 use Rattle.value_cert.specs.Rules.{Rules}
 use Rattle.value_cert.specs.Standard.{Standard}
 use Rattle.value_cert.specs.declared.cert.Cert.{Cert}
 use Rattle.value_cert.specs.declared.cert.Cert.TheVariants as cert
 use Rattle.value_cert.specs.declared.lots.LotCert.{LotCert}
 use Rattle.value_cert.specs.declared.line.CertLine.{CertLine}
-use Rattle.value_cert.specs.declared.line.CertLine.TheVariants.{Head, Order, Cost}
+use Rattle.value_cert.specs.declared.line.CertLine.TheVariants.{Order, Cost}
 
 -- how far the dual of period k exceeds the cost of serving its demand from period t
 abbrev pub excess : LotSize → List ℕ → ℕ → ℕ → ℕ
@@ -47,11 +45,6 @@ plan_cost_rule lots orders duals cost =
     if is_number (pos (plan_cost lots orders)) cost then (if is_number (pos (sum duals)) cost then None else Some 6)
     else Some 5
 
--- the head has the lots' kind, and no discount
-abbrev pub is_lots_head : Kind → ℤ → ℤ → Bool
-is_lots_head kind.Lots num den = is_one num den
-is_lots_head _ num den = false
-
 -- the orders and the duals of the first periods
 pub record FirstOrders : Type 0 where
   pub orders : List ℕ
@@ -77,7 +70,6 @@ whole_cost_rule lots first cost =
 
 -- the least rule from 2 on that a line breaks, the first orders being named
 abbrev pub lots_rule : LotSize → FirstOrders → CertLine → Option ℕ
-lots_rule lots first (Head kind num den) = if is_lots_head kind num den then None else Some 2
 lots_rule lots first (Order order dual) = next_order_rule lots first (unsigned_abs order) (unsigned_abs dual)
 lots_rule lots first (Cost cost) = whole_cost_rule lots first cost
 lots_rule lots first _ = None

@@ -3,6 +3,7 @@ use Rattle.std.specs.Prelude.{List, [], ◌∷◌, Bool, true, false, pos}
 use Rattle.newsvendor.specs.declared.solve.NewsCert.{NewsCert}
 use Rattle.decision_model.specs.declared.kinds.Kind.TheVariants as kind
 use Rattle.value_cert.specs.Contents.{Contents, Table}
+use Rattle.value_cert.specs.Headings.{plain_heading}
 use Rattle.value_cert.specs.Numbers.{is_no_discount}
 use Rattle.value_cert.specs.declared.line.CertLine.{CertLine}
 use Rattle.value_cert.specs.declared.line.CertLine.TheVariants.{Level, Cost}
@@ -14,7 +15,7 @@ abbrev pub news_lines : NewsCert → List CertLine
 news_lines c = Level (pos c.q) ∷ Cost (pos c.cost) ∷ []
 
 abbrev pub news_contents : NewsCert → Contents
-news_contents c = record { kind = kind.News; num = pos 1; den = pos 1; lines = news_lines c; complete = Unit {0} }
+news_contents c = record { head = plain_heading kind.News; lines = news_lines c; complete = Unit {0} }
 
 abbrev pub news_follows : Tag → Tag → Bool
 news_follows tag.Head tag.Level = true

@@ -1,25 +1,18 @@
 -- What a certificate of a newsvendor has to say, line by line and as a whole.
-use Rattle.std.specs.Prelude.{◌≡◌, ℕ, ◌+◌, ◌*◌, List, length, Bool, false, ◌||◌, not, if◌then◌else◌, nat_le, ℤ, pos, negsuc, ◌-ℤ◌, unsigned_abs, sum, Option, Some, None}
+use Rattle.std.specs.Prelude.{◌≡◌, ℕ, ◌+◌, ◌*◌, List, length, Bool, ◌||◌, not, if◌then◌else◌, nat_le, ℤ, pos, negsuc, ◌-ℤ◌, unsigned_abs, sum, Option, Some, None}
 use Rattle.demand_law.specs.Law.{upto_of}
 use Rattle.fraction128.specs.Reduced.{lowest_num, lowest_den}
 use Rattle.newsvendor.specs.Item.{NewsvendorItem}
 use Rattle.newsvendor.specs.Least.{first_least_upto}
 use Rattle.newsvendor.specs.Level.{cost_of, LeastLevel}
 use Rattle.newsvendor.specs.declared.solve.NewsCert.{NewsCert}
-use Rattle.decision_model.specs.declared.kinds.Kind.{Kind}
-use Rattle.decision_model.specs.declared.kinds.Kind.TheVariants as kind
-use Rattle.value_cert.specs.Numbers.{is_number, is_one}
+use Rattle.value_cert.specs.Numbers.{is_number}
 use Rattle.value_cert.specs.Rules.{Rules}
 use Rattle.value_cert.specs.Standard.{Standard}
 use Rattle.value_cert.specs.declared.cert.Cert.{Cert}
 use Rattle.value_cert.specs.declared.cert.Cert.TheVariants as cert
 use Rattle.value_cert.specs.declared.line.CertLine.{CertLine}
-use Rattle.value_cert.specs.declared.line.CertLine.TheVariants.{Head, Level, Cost}
-
--- the head has the newsvendor's kind, and no discount
-abbrev pub is_news_head : Kind → ℤ → ℤ → Bool
-is_news_head kind.News num den = is_one num den
-is_news_head _ num den = false
+use Rattle.value_cert.specs.declared.line.CertLine.TheVariants.{Level, Cost}
 
 -- the sum of the weights up to a level; none is below 0
 abbrev pub weights_upto : List ℕ → ℤ → ℕ
@@ -51,7 +44,6 @@ named_level so_far _ = so_far
 
 -- the least rule from 2 on that a line breaks, a level being named
 abbrev pub news_rule : NewsvendorItem → ℕ → CertLine → Option ℕ
-news_rule newsvendor named (Head kind num den) = if is_news_head kind num den then None else Some 2
 news_rule newsvendor named (Level level) = level_rule newsvendor level
 news_rule newsvendor named (Cost cost) = cost_rule newsvendor named cost
 news_rule newsvendor named _ = None

@@ -38,8 +38,11 @@ pub record HasPeriods (c : SerialCert) : Type 0 where
   pub each : EachIs HasEchelons c.periods
 
 abbrev pub serial_contents : SerialCert → Contents
-serial_contents c =
-    record { kind = kind.Serial; num = pos c.discount_num; den = pos c.discount_den; lines = flat_map period_lines c.periods; complete = HasPeriods c }
+serial_contents c = record {
+  head = record { kind = kind.Serial; num = c.discount_num; den = c.discount_den };
+  lines = flat_map period_lines c.periods;
+  complete = HasPeriods c;
+}
 
 abbrev pub serial_follows : Tag → Tag → Bool
 serial_follows tag.Head tag.Period = true

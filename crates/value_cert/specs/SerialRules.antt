@@ -1,11 +1,9 @@
 -- What a certificate of a serial system has to say, line by line and as a whole. A row has the positions of one echelon in
 -- one period, from the low end up.
-use Rattle.std.specs.Prelude.{◌≡◌, ℕ, suc, ◌-◌, ◌<◌, List, [], ◌∷◌, length, map, slice_index_or, Bool, false, ◌&&◌, ◌||◌, not, ◌==◌, if◌then◌else◌, nat_le, nat_lt, ℤ, pos, ◌+ℤ◌, int_le, int_lt, Option, Some, None}
+use Rattle.std.specs.Prelude.{◌≡◌, ℕ, suc, ◌-◌, ◌<◌, List, [], ◌∷◌, length, map, slice_index_or, Bool, ◌&&◌, ◌||◌, not, ◌==◌, if◌then◌else◌, nat_le, nat_lt, ℤ, pos, ◌+ℤ◌, int_le, int_lt, Option, Some, None}
 use Rattle.std.specs.List.{list_all, range_with_len}
 use Rattle.fraction128.specs.Reduced.{lowest_num, lowest_den}
 use Rattle.decision_model.specs.declared.serial.Serial.{Serial}
-use Rattle.decision_model.specs.declared.kinds.Kind.{Kind}
-use Rattle.decision_model.specs.declared.kinds.Kind.TheVariants as kind
 use Rattle.decision_model.specs.Policies.{Least}
 use Rattle.decision_model.specs.Serial.{serial_low}
 use Rattle.decision_model.specs.SerialProblem.{over_echelons, serial_problem}
@@ -17,7 +15,7 @@ use Rattle.value_cert.specs.Standard.{Standard}
 use Rattle.value_cert.specs.declared.cert.Cert.{Cert}
 use Rattle.value_cert.specs.declared.cert.Cert.TheVariants as cert
 use Rattle.value_cert.specs.declared.line.CertLine.{CertLine}
-use Rattle.value_cert.specs.declared.line.CertLine.TheVariants.{Head, Period, Echelon, Part, End}
+use Rattle.value_cert.specs.declared.line.CertLine.TheVariants.{Period, Echelon, Part, End}
 use Rattle.value_cert.specs.declared.serial.SerialCell.{SerialCell}
 use Rattle.value_cert.specs.declared.serial.SerialCert.{SerialCert}
 use Rattle.value_cert.specs.declared.serial.SerialPeriod.{SerialPeriod}
@@ -81,11 +79,6 @@ is_period_whole serial first =
     (first.periods == 0) || ((first.echelons == length serial.holding) && is_row_whole serial first)
 
 -- ---- rules
--- the head has the serial kind and the instance's discount
-abbrev pub is_serial_head : Serial → Kind → ℤ → ℤ → Bool
-is_serial_head serial kind.Serial num den = is_number (pos serial.discount_num) num && is_number (pos serial.discount_den) den
-is_serial_head serial _ num den = false
-
 -- the next period is this one, and the one before it is whole
 abbrev pub is_next_period : Serial → FirstRows → ℤ → Bool
 is_next_period serial first period =
@@ -150,7 +143,6 @@ are_periods_whole serial first = is_period_whole serial first && (first.periods 
 
 -- the least rule from 2 on that a line breaks behind the lines that name these
 abbrev pub serial_rule : Serial → FirstRows → CertLine → Option ℕ
-serial_rule serial first (Head kind num den) = if is_serial_head serial kind num den then None else Some 2
 serial_rule serial first (Period period) = if is_next_period serial first period then None else Some 2
 serial_rule serial first (Echelon echelon level) = echelon_rule serial first echelon level
 serial_rule serial first (Part at value) = position_rule serial first at value

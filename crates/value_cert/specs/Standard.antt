@@ -4,7 +4,7 @@ use Rattle.value_cert.specs.Rules.{Rules}
 use Rattle.value_cert.specs.declared.cert.Cert.{Cert}
 use Rattle.value_cert.specs.declared.line.CertLine.{CertLine}
 
--- the rules on the lines; which certificates name a policy than which none costs less, and its cost; the one that the
+-- the rules on the lines behind the head; which certificates name a policy than which none costs less, and its cost; the one that the
 -- solver writes, if the kind is solved; and the cost that is printed of one, in lowest terms
 pub record Standard : Type 1 where
   pub rules : Rules

@@ -3,6 +3,7 @@ use Rattle.decision_model.specs.declared.instance.Instance.{Instance}
 use Rattle.decision_model.specs.declared.instance.Instance.TheVariants.{News, Lots, Finite, Average, Serial, Network}
 use Rattle.value_cert.specs.AverageRules.{average_standard}
 use Rattle.value_cert.specs.FiniteRules.{finite_standard}
+use Rattle.value_cert.specs.Headings.{heading_of, with_head}
 use Rattle.value_cert.specs.LotsRules.{lots_standard}
 use Rattle.value_cert.specs.NewsRules.{news_standard}
 use Rattle.value_cert.specs.Rules.{Rules}
@@ -17,6 +18,10 @@ standard_of (Average average) = average_standard average
 standard_of (Serial serial) = serial_standard serial
 standard_of (Network net) = unsolved
 
--- the rules of the instance's kind
+-- the rules of the instance's kind, behind the head
+abbrev pub kind_rules : Instance → Rules
+kind_rules instance = (standard_of instance).rules
+
+-- .. and with it
 abbrev pub rules_of : Instance → Rules
-rules_of instance = (standard_of instance).rules
+rules_of instance = with_head (heading_of instance) (kind_rules instance)

@@ -1,16 +1,17 @@
 -- The text of a certificate, and what is one.
 use Rattle.std.specs.Prelude.{◌≡◌, ℕ, List, [], ◌∷◌, ◌++◌, IsTrue}
 use Rattle.std.specs.List.{flat_map, list_all}
+use Rattle.value_cert.specs.Contents.{head_line}
 use Rattle.value_cert.specs.Grammar.{has_numbers}
 use Rattle.value_cert.specs.Kinds.{contents_of}
 use Rattle.value_cert.specs.Lines.{line_text}
 use Rattle.value_cert.specs.declared.cert.Cert.{Cert}
 use Rattle.value_cert.specs.declared.line.CertLine.{CertLine}
-use Rattle.value_cert.specs.declared.line.CertLine.TheVariants.{Head, End}
+use Rattle.value_cert.specs.declared.line.CertLine.TheVariants.{End}
 
 -- the lines of a certificate
 abbrev pub cert_lines : Cert → List CertLine
-cert_lines c = let held = contents_of c in Head held.kind held.num held.den ∷ held.lines ++ End ∷ []
+cert_lines c = let held = contents_of c in head_line held.head ∷ held.lines ++ End ∷ []
 
 -- the text of lines
 abbrev pub lines_text : List CertLine → List ℕ

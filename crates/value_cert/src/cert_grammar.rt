@@ -10,32 +10,33 @@ use line_text::Grammar;
 const TOO_LONG: usize = 128;
 
 /// The lines of certificates, and where they may stand.
-pub enum CertGrammar {}
+#[derive(Clone, Copy)]
+pub struct CertGrammar;
 
 impl Grammar for CertGrammar {
     type Line = CertLine;
 
     type Place = Place;
 
-    ghost grammar = { cert_grammar };
+    ghost grammar = { λ _. cert_grammar };
 
-    fn start() -> Place {
+    fn start(self) -> Place {
         Place::Start
     }
 
-    fn after(place: Place, line: &CertLine) -> Option<Place> {
+    fn after(self, place: Place, line: &CertLine) -> Option<Place> {
         place.after(line)
     }
 
-    fn has_ended(place: Place) -> bool {
+    fn has_ended(self, place: Place) -> bool {
         place.has_ended()
     }
 
-    fn parse(bytes: &[u8]) -> Option<CertLine> {
+    fn parse(self, bytes: &[u8]) -> Option<CertLine> {
         parse_line(bytes)
     }
 
-    fn limit() -> usize {
+    fn limit(self) -> usize {
         TOO_LONG
     }
 }

@@ -50,7 +50,7 @@ fn put_head(kind: Kind, num: i128, den: i128, piece: &mut Piece)
 }
 
 // A line of a tag and a number.
-fn put_one(tag: &[u8], number: i128, piece: &mut Piece)
+pub(crate) fn put_one(tag: &[u8], number: i128, piece: &mut Piece)
     requires tag { length tag.now ≤ 4 }
     requires room { array_vec_len piece.old + 128 ≤ 16384 }
     ensures { piece.new.items ≡ piece.old.items ++ tag.now ++ number_word number ++ 10 ∷ [] }
@@ -61,7 +61,7 @@ fn put_one(tag: &[u8], number: i128, piece: &mut Piece)
 }
 
 // A line of a tag and two numbers.
-fn put_two(tag: &[u8], first: i128, second: i128, piece: &mut Piece)
+pub(crate) fn put_two(tag: &[u8], first: i128, second: i128, piece: &mut Piece)
     requires tag { length tag.now ≤ 4 }
     requires room { array_vec_len piece.old + 128 ≤ 16384 }
     ensures { piece.new.items ≡ piece.old.items ++ tag.now ++ number_word first ++ number_word second ++ 10 ∷ [] }
@@ -73,7 +73,7 @@ fn put_two(tag: &[u8], first: i128, second: i128, piece: &mut Piece)
 }
 
 // A line of a tag and three numbers.
-fn put_three(tag: &[u8], first: i128, second: i128, third: i128, piece: &mut Piece)
+pub(crate) fn put_three(tag: &[u8], first: i128, second: i128, third: i128, piece: &mut Piece)
     requires tag { length tag.now ≤ 4 }
     requires room { array_vec_len piece.old + 128 ≤ 16384 }
     ensures { piece.new.items ≡ piece.old.items ++ tag.now ++ number_word first ++ number_word second ++ number_word third ++ 10 ∷ [] }

@@ -35,7 +35,7 @@ impl Model for CertReader {
 
     ghost Value = { ReaderState };
 
-    ghost view = { λ inside. inside.reader };
+    ghost view = { λ inside. inside.reader.lines };
 }
 
 impl CertReader {
@@ -45,7 +45,7 @@ impl CertReader {
         ensures read { HasRead result [] [] }
     {
         CertReader {
-            reader: LineReader::new(),
+            reader: LineReader::new(CertGrammar),
         }
     }
 

@@ -1,5 +1,5 @@
 use Rattle.std.proofs.Common.{ℕ, ◌+◌, ◌-◌, ◌/◌, ◌<◌, get_or, arith}
-use Rattle.decision_model.specs.Pauses.{no_span}
+use Rattle.network_model.specs.Pauses.{no_span}
 use Rattle.disruption.specs.Tables.{Begins, Follows}
 use Rattle.disruption.proofs.TableFacts.{begins_earlier, follows_later}
 use Rattle.disruption.proofs.table.count_begun.Goals as goal

@@ -1,5 +1,5 @@
 use Rattle.std.proofs.Common.{ℕ, ◌-◌, ◌<◌, ◌≤◌, length, get_or}
-use Rattle.decision_model.specs.Pauses.{no_span}
+use Rattle.network_model.specs.Pauses.{no_span}
 use Rattle.disruption.specs.Tables.{Begins, Follows}
 use Rattle.disruption.proofs.table.count_begun.Given as goal
 

@@ -1,7 +1,7 @@
 use Rattle.std.proofs.Common.{◌≡◌, ℕ, ◌-◌, ◌<◌, nat_lt, false, length, ap, sym, ◌∙◌, arith}
 use Rattle.std.proofs.lemmas.List.{get_or_default}
 use Rattle.std.proofs.lemmas.Bool.Decides.{nat_tests}
-use Rattle.decision_model.specs.Pauses.{holds, no_span}
+use Rattle.network_model.specs.Pauses.{holds, no_span}
 use Rattle.disruption.proofs.TableFacts.{none_paused, last_decides}
 use Rattle.disruption.proofs.table.is_held.Goals as goal
 

@@ -1,5 +1,5 @@
 use Rattle.std.proofs.Common.{◌≡◌, ℕ, ◌<◌, ◌≤◌, length, get_or, sym, subst, arith}
-use Rattle.decision_model.specs.Pauses.{no_span}
+use Rattle.network_model.specs.Pauses.{no_span}
 use Rattle.disruption.specs.Tables.{IsTable, Begins, Follows, HasOneMore}
 use Rattle.disruption.proofs.TableFacts.{whole_at, apart_place, begun_before, before_following, table_insert, one_more}
 use Rattle.disruption.proofs.table.put.Goals as goal

@@ -1,10 +1,11 @@
-use Rattle.std.proofs.Common.{List, ◌≡◌, sym, ◌∙◌, subst}
+use Rattle.std.proofs.Common.{List, sym, ◌∙◌, subst}
 use Rattle.decision_model.specs.declared.finite.Finite.{Finite}
+use Rattle.decision_model.specs.declared.instance.Instance.TheVariants as instance
 use Rattle.finite_lemmas.specs.SolvedKept.{solved_breaks_nothing, solved_is_least}
 use Rattle.finite_recursion.specs.SolvedSizes.{solved_has_text}
-use Rattle.value_cert.specs.FiniteRules.{IsLeastPolicy, finite_rules, no_rows, solved_finite}
-use Rattle.value_cert.specs.Kept.{Keeps}
-use Rattle.value_cert.specs.Texts.{HasText, cert_lines}
+use Rattle.value_cert.specs.FiniteRules.{IsLeastPolicy}
+use Rattle.value_cert.specs.Kept.{BreaksNoRule}
+use Rattle.value_cert.specs.Texts.{HasText}
 use Rattle.value_cert.specs.declared.cert.Cert.TheVariants as cert
 use Rattle.value_cert.specs.declared.finite.FiniteCert.{FiniteCert}
 use Rattle.value_cert.specs.declared.finite.FiniteRow.{FiniteRow}
@@ -25,7 +26,7 @@ pub returns-in-Ok-clause-accepted : goal.returns-in-Ok-clause-accepted
 unfolding with_rows
 returns-in-Ok-clause-accepted c =
     let finite = c.args.finite.now in
-    let P : List FiniteRow → Type 0 = λ rows. Keeps (finite_rules finite) (no_rows finite) (cert_lines (cert.Finite (with_rows finite rows))) in
+    let P : List FiniteRow → Type 0 = λ rows. BreaksNoRule (instance.Finite finite) (cert.Finite (with_rows finite rows)) in
     subst P (sym (c.new.ensures ∙ c.in-Ok.ensures)) (solved_breaks_nothing finite c.requires.regular.readable)
 
 pub returns-in-Ok-clause-text : goal.returns-in-Ok-clause-text

@@ -1,7 +1,7 @@
 use Rattle.std.proofs.Common.{◌≡◌, ℕ, List, ◌+◌, ◌<◌, ◌++◌, length, map, drop, sum, All, Some, Ok, sym, ap, subst, ◌∙◌, rules, length-append}
 use Rattle.std.proofs.lemmas.List.Elements.{All-push}
 use Rattle.serde_json.specs.View.{view}
-use Rattle.decision_model.specs.DemandLaws.{IsDemandLaw, common_total}
+use Rattle.model_terms.specs.DemandLaws.{IsDemandLaw, common_total}
 use Rattle.json_forms.specs.Steps.{◌>>=◌}
 use Rattle.json_forms.specs.LawTexts.{scaled_laws}
 use Rattle.json_forms.proofs.Scaled.{scaled_more, common_more, common_of}

@@ -1,7 +1,7 @@
 use Rattle.std.proofs.Common.{◌≡◌, ◌++◌, ◌≤◌, [], Ok, map, drop, length, sum, All}
 use Rattle.std.specs.Option.{IfSome, MatchOption}
 use Rattle.serde_json.specs.View.{view}
-use Rattle.decision_model.specs.DemandLaws.{IsDemandLaw}
+use Rattle.model_terms.specs.DemandLaws.{IsDemandLaw}
 use Rattle.json_forms.specs.Steps.{◌>>=◌}
 use Rattle.json_forms.specs.LawTexts.{scaled_laws}
 use Rattle.json_forms.proofs.laws.scaled_laws.Given as goal

@@ -1,6 +1,6 @@
 use Rattle.std.proofs.Common.{◌≡◌, drop}
 use Rattle.std.specs.List.{list_all}
-use Rattle.decision_model.specs.Nodes.{is_name_byte}
+use Rattle.model_terms.specs.Names.{is_name_byte}
 use Rattle.json_forms.proofs.node_names.are_name_bytes.Given as goal
 
 abbrev pub invariant-loop-byte : goal.invariant-loop-byte

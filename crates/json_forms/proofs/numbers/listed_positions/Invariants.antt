@@ -1,5 +1,5 @@
 use Rattle.std.proofs.Common.{◌≡◌, All, ◌++◌, Ok, map, drop}
-use Rattle.decision_model.specs.Positions.{IsPosition}
+use Rattle.model_terms.specs.Positions.{IsPosition}
 use Rattle.serde_json.specs.View.{view}
 use Rattle.json_forms.specs.Steps.{◌>>=◌, each}
 use Rattle.json_forms.specs.Numbers.{position_in}

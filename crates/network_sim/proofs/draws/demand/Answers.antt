@@ -1,5 +1,5 @@
 use Rattle.std.proofs.Common.{rules, ◌≤◌, sym, subst, ap, arith}
-use Rattle.decision_model.specs.Nodes.{top_of}
+use Rattle.network_model.specs.Nodes.{top_of}
 use Rattle.node_state.specs.Draws.{demand_of, word_at}
 use Rattle.network_sim.proofs.Drawn.{at_most_greatest, pick_small}
 use Rattle.network_sim.proofs.draws.demand.Goals as goal

@@ -1,8 +1,8 @@
 use Rattle.std.proofs.Common.{◌≤◌, ◌<◌, ◌∙◌, ap, sym, subst, arith, add-one, cond, length}
 use Rattle.std.proofs.lemmas.List.{length-set}
 use Rattle.rand_pcg.specs.Pcg.{pcg32}
-use Rattle.decision_model.specs.Nodes.{top_of}
-use Rattle.decision_model.specs.Network.{is_drawn}
+use Rattle.network_model.specs.Nodes.{top_of}
+use Rattle.network_model.specs.Network.{is_drawn}
 use Rattle.node_state.specs.Draws.{demand_of, after_words, word_at}
 use Rattle.network_sim.specs.declared.station.Station.{Station}
 use Rattle.network_sim.specs.Machine.{station, no_station, drawn_in}

@@ -1,5 +1,5 @@
 use Rattle.std.proofs.Common.{◌≡◌, ℕ, ◌<◌, ◌≤◌, length, slice_index}
-use Rattle.decision_model.specs.Nodes.{top_of}
+use Rattle.network_model.specs.Nodes.{top_of}
 use Rattle.node_state.specs.Draws.{demand_of, after_words, word_at}
 use Rattle.network_sim.specs.Machine.{station, drawn_in}
 use Rattle.network_sim.proofs.draws.draw_demands.Given as goal

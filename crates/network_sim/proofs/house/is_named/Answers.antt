@@ -1,6 +1,6 @@
 use Rattle.std.proofs.Common.{sym, ◌∙◌, ap, arith}
-use Rattle.decision_model.specs.declared.network.NodeSpec.{NodeSpec}
-use Rattle.decision_model.specs.Nodes.{no_node}
+use Rattle.network_model.specs.declared.network.NodeSpec.{NodeSpec}
+use Rattle.network_model.specs.Nodes.{no_node}
 use Rattle.network_sim.specs.Houses.{is_house}
 use Rattle.network_sim.proofs.Ordered.{get_or_any}
 use Rattle.network_sim.proofs.Refused.{named_at}

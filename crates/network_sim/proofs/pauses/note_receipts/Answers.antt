@@ -1,7 +1,7 @@
 use Rattle.std.proofs.Common.{arith, ◌∙◌, false}
 use Rattle.std.proofs.lemmas.List.{length-set}
-use Rattle.decision_model.specs.declared.network.Pause.TheVariants.{Receipts}
-use Rattle.decision_model.specs.Pauses.{is_paused}
+use Rattle.network_model.specs.declared.network.Pause.TheVariants.{Receipts}
+use Rattle.network_model.specs.Pauses.{is_paused}
 use Rattle.network_sim.proofs.Lists.{written}
 use Rattle.network_sim.proofs.pauses.note_receipts.Goals as goal
 

@@ -1,6 +1,6 @@
 use Rattle.std.proofs.Common.{◌≡◌, ℕ, ◌<◌, length}
-use Rattle.decision_model.specs.declared.network.Pause.TheVariants.{Shipments}
-use Rattle.decision_model.specs.Pauses.{is_paused}
+use Rattle.network_model.specs.declared.network.Pause.TheVariants.{Shipments}
+use Rattle.network_model.specs.Pauses.{is_paused}
 use Rattle.network_sim.specs.Machine.{flag_at}
 use Rattle.network_sim.proofs.pauses.note_shipments.Given as goal
 

@@ -1,7 +1,7 @@
 use Rattle.std.proofs.Common.{◌≡◌, ◌<◌, ◌∙◌, List, [], ◌∷◌, arith, length, ap, length-append, get_or}
 use Rattle.node_state.specs.Holdings.{Holding, new_holding, legs_of, no_holding}
-use Rattle.decision_model.specs.declared.network.NodeSpec.{NodeSpec}
-use Rattle.decision_model.specs.Nodes.{node_at, no_node}
+use Rattle.network_model.specs.declared.network.NodeSpec.{NodeSpec}
+use Rattle.network_model.specs.Nodes.{node_at, no_node}
 use Rattle.network_sim.specs.declared.station.Station.{Station}
 use Rattle.network_sim.specs.Machine.{node, station, no_station}
 use Rattle.network_sim.proofs.Lists.{pushed}

@@ -1,5 +1,5 @@
 use Rattle.std.proofs.Common.{◌≡◌, ℕ, ◌<◌, length}
-use Rattle.decision_model.specs.Nodes.{node_at}
+use Rattle.network_model.specs.Nodes.{node_at}
 use Rattle.node_state.specs.Holdings.{new_holding, legs_of}
 use Rattle.network_sim.specs.Machine.{node, station}
 use Rattle.network_sim.proofs.stations.make_nodes.Given as goal

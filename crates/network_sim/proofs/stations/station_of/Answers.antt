@@ -1,7 +1,7 @@
 use Rattle.std.proofs.Common.{◌≡◌, ◌<◌, List, length, sym, ◌∙◌, ap, subst, arith, get_or}
-use Rattle.decision_model.specs.declared.network.NodeSpec.{NodeSpec}
-use Rattle.decision_model.specs.Nodes.{node_at, no_node, IsReadableDemand}
-use Rattle.decision_model.specs.NetworkFacts.{node_readable}
+use Rattle.network_model.specs.declared.network.NodeSpec.{NodeSpec}
+use Rattle.network_model.specs.Nodes.{node_at, no_node, IsReadableDemand}
+use Rattle.network_model.specs.NetworkFacts.{node_readable}
 use Rattle.network_sim.proofs.Ordered.{get_or_any}
 use Rattle.network_sim.proofs.stations.station_of.Goals as goal
 
@@ -13,7 +13,7 @@ returns c =
     let readable = node_readable c.args.network.now c.requires.valid.readable c.args.place c.requires.within in
     let h = ap (λ (x : NodeSpec). x.holding) same in
     let o = ap (λ (x : NodeSpec). x.stockout) same in
-    let demand = c.in-Ok.ensures ∙ ap (λ (x : NodeSpec). x.demand) same in
+    let demand = c.in_ok-demand.ensures ∙ ap (λ (x : NodeSpec). x.demand) same in
     record {
       rule = c.of_rule.ensures ∙ ap (λ (x : NodeSpec). x.rule) same;
       holding = h;

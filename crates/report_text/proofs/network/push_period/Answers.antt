@@ -1,7 +1,7 @@
 use Rattle.std.proofs.Common.{◌≡◌, ◌++◌, ◌<◌, List, length, get_or, rules, subst, ◌∙◌, ap, arith}
 use Rattle.std.proofs.lemmas.List.{get_or_default}
 use Rattle.decision_model.specs.Nodes.{node_at, no_node}
-use Rattle.decision_model.specs.declared.network.NodeSpec.{NodeSpec}
+use Rattle.network_model.specs.declared.network.NodeSpec.{NodeSpec}
 use Rattle.node_state.specs.Totals.{Line}
 use Rattle.report_text.specs.Network.{node_line, no_line}
 use Rattle.report_text.proofs.Lines.{more_lines}

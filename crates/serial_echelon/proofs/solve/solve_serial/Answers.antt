@@ -1,11 +1,12 @@
 use Rattle.std.proofs.Common.{List, ◌≡◌, sym, ◌∙◌, subst}
+use Rattle.decision_model.specs.declared.instance.Instance.TheVariants as instance
 use Rattle.decision_model.specs.declared.serial.Serial.{Serial}
 use Rattle.serial_lemmas.specs.PeriodsLeast.{serial_certifies}
 use Rattle.serial_lemmas.specs.SolvedKept.{solved_breaks_nothing}
 use Rattle.serial_lemmas.specs.SolvedTexts.{solved_serial_text}
-use Rattle.value_cert.specs.Kept.{Keeps}
-use Rattle.value_cert.specs.SerialRules.{IsLeastPolicy, serial_rules, no_rows, solved_serial}
-use Rattle.value_cert.specs.Texts.{HasText, cert_lines}
+use Rattle.value_cert.specs.Kept.{BreaksNoRule}
+use Rattle.value_cert.specs.SerialRules.{IsLeastPolicy, solved_serial}
+use Rattle.value_cert.specs.Texts.{HasText}
 use Rattle.value_cert.specs.declared.cert.Cert.TheVariants as cert
 use Rattle.value_cert.specs.declared.serial.SerialCert.{SerialCert}
 use Rattle.value_cert.specs.declared.serial.SerialPeriod.{SerialPeriod}
@@ -27,7 +28,7 @@ pub returns-in-Ok-clause-accepted : goal.returns-in-Ok-clause-accepted
 unfolding with_periods
 returns-in-Ok-clause-accepted c =
     let serial = c.args.serial.now in
-    let P : List SerialPeriod → Type 0 = λ periods. Keeps (serial_rules serial) no_rows (cert_lines (cert.Serial (with_periods serial periods))) in
+    let P : List SerialPeriod → Type 0 = λ periods. BreaksNoRule (instance.Serial serial) (cert.Serial (with_periods serial periods)) in
     subst P (sym (c.new.ensures ∙ c.in-Ok.ensures)) (solved_breaks_nothing serial c.requires.regular.readable)
 
 pub returns-in-Ok-clause-text : goal.returns-in-Ok-clause-text

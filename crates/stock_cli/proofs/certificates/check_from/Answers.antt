@@ -15,38 +15,38 @@ returns-in_err-count-clause-none g c =
     search rules
 
 pub returns-then-count-eq0-clause-verdict : goal.returns-then-count-eq0-clause-verdict
-returns-then-count-eq0-clause-verdict g c = λ instance h.
+returns-then-count-eq0-clause-verdict g c = λ of h.
     let buf = c.read_piece.new.buf in
     let input = origin_of c.args.from.now in
     let some : 0 < length buf = search rules in
     let zero : c.in_ok-count.count ≡ 0 = search rules in
     let Gives : ℕ → Type 0 = GivesNext input (g.I.Source.left c.loop-taken.input) (g.I.Source.left c.read_piece.new.input) (g.F.Files.held c.args.files.now) c.loop-taken.taken buf in
     let given : Gives c.in_ok-count.count = rw (← c.loop-taken.invariant.same_held) c.in_ok-count.ensures.bytes in
-    end_come instance _ _ input _ _ _ _ buf c.loop-taken.taken (c.loop-taken.invariant.come instance h) some (subst Gives zero given) (c.end.ensures.answer instance) (c.end.ensures.accepted instance)
+    end_come g.C.TakesText.check of _ _ input _ _ _ _ buf c.loop-taken.taken (c.loop-taken.invariant.come of h) some (subst Gives zero given) (c.end.ensures.answer of) (c.end.ensures.accepted of)
 
 pub returns-then-count-eq0-clause-reach : goal.returns-then-count-eq0-clause-reach
-returns-then-count-eq0-clause-reach g c = λ instance h e.
+returns-then-count-eq0-clause-reach g c = λ of h e.
     let buf = c.read_piece.new.buf in
     let input = origin_of c.args.from.now in
     let small : length buf ≤ 4096 = search rules in
     let given : GivesNext input (g.I.Source.left c.loop-taken.input) (g.I.Source.left c.read_piece.new.input) (g.F.Files.held c.args.files.now) c.loop-taken.taken buf c.in_ok-count.count = rw (← c.loop-taken.invariant.same_held) c.in_ok-count.ensures.bytes in
-    reaches_piece instance _ input _ _ _ _ buf c.loop-taken.taken c.in_ok-count.count (c.loop-taken.invariant.come instance h) c.in_ok-count.ensures.bound.0 small given e
+    reaches_piece g.C.TakesText.check of _ input _ _ _ _ buf c.loop-taken.taken c.in_ok-count.count (c.loop-taken.invariant.come of h) c.in_ok-count.ensures.bound.0 small given e
 
 pub returns-then-is_rejected-clause-verdict : goal.returns-then-is_rejected-clause-verdict
-returns-then-is_rejected-clause-verdict g c = λ instance h.
+returns-then-is_rejected-clause-verdict g c = λ of h.
     let buf = c.read_piece.new.buf in
     let input = origin_of c.args.from.now in
     let some : 0 < c.in_ok-count.count = search rules in
     let given : GivesNext input (g.I.Source.left c.loop-taken.input) (g.I.Source.left c.read_piece.new.input) (g.F.Files.held c.args.files.now) c.loop-taken.taken buf c.in_ok-count.count = rw (← c.loop-taken.invariant.same_held) c.in_ok-count.ensures.bytes in
-    rejected_come instance _ _ input _ _ _ _ buf c.loop-taken.taken c.in_ok-count.count (c.loop-taken.invariant.come instance h) c.in_ok-count.ensures.bound.0 some given (c.push-verdict.ensures.answer instance) (sym c.is_rejected.ensures ∙ c.if-is_rejected.true)
+    rejected_come g.C.TakesText.check of _ _ input _ _ _ _ buf c.loop-taken.taken c.in_ok-count.count (c.loop-taken.invariant.come of h) c.in_ok-count.ensures.bound.0 some given (c.push-verdict.ensures.answer of) (sym c.is_rejected.ensures ∙ c.if-is_rejected.true)
 
 pub returns-then-is_rejected-clause-reach : goal.returns-then-is_rejected-clause-reach
-returns-then-is_rejected-clause-reach g c = λ instance h e.
+returns-then-is_rejected-clause-reach g c = λ of h e.
     let buf = c.read_piece.new.buf in
     let input = origin_of c.args.from.now in
     let small : length buf ≤ 4096 = search rules in
     let given : GivesNext input (g.I.Source.left c.loop-taken.input) (g.I.Source.left c.read_piece.new.input) (g.F.Files.held c.args.files.now) c.loop-taken.taken buf c.in_ok-count.count = rw (← c.loop-taken.invariant.same_held) c.in_ok-count.ensures.bytes in
-    reaches_piece instance _ input _ _ _ _ buf c.loop-taken.taken c.in_ok-count.count (c.loop-taken.invariant.come instance h) c.in_ok-count.ensures.bound.0 small given e
+    reaches_piece g.C.TakesText.check of _ input _ _ _ _ buf c.loop-taken.taken c.in_ok-count.count (c.loop-taken.invariant.come of h) c.in_ok-count.ensures.bound.0 small given e
 
 pub loop-taken-preserved : goal.loop-taken-preserved
 loop-taken-preserved g c =
@@ -55,7 +55,7 @@ loop-taken-preserved g c =
     let given : GivesNext input (g.I.Source.left c.loop-taken.input) (g.I.Source.left c.read_piece.new.input) (g.F.Files.held c.args.files.now) c.loop-taken.taken buf c.in_ok-count.count = rw (← c.loop-taken.invariant.same_held) c.in_ok-count.ensures.bytes in
     let going = ap is_rejection (sym c.push-verdict.ensures.last) ∙ sym c.is_rejected.ensures ∙ c.if-is_rejected.false in
     record {
-      come = λ instance h. more_come instance _ _ input _ _ _ _ buf c.loop-taken.taken c.in_ok-count.count (c.loop-taken.invariant.come instance h) c.in_ok-count.ensures.bound.0 given (c.push-verdict.ensures.stands instance) going;
+      come = λ of h. more_come g.C.TakesText.check of _ _ input _ _ _ _ buf c.loop-taken.taken c.in_ok-count.count (c.loop-taken.invariant.come of h) c.in_ok-count.ensures.bound.0 given (c.push-verdict.ensures.stands of) going;
       same_held = c.in_ok-count.ensures.same_held ∙ c.loop-taken.invariant.same_held;
       later_input = omega (arith, c.loop-taken.invariant.later_input, c.in_ok-count.ensures.later_input);
       later_files = omega (arith, c.loop-taken.invariant.later_files, c.in_ok-count.ensures.later_files);

@@ -2,11 +2,10 @@ use Rattle.std.proofs.Common.{◌≡◌, None, Result, Ok, ap, subst, sym, ◌�
 use Rattle.std.proofs.lemmas.Result.{IfOk-weaker}
 use Rattle.stock_cli.specs.Asks.{IsInputOf, asked_of}
 use Rattle.stock_cli.specs.Causes.{ComesTo, ReadsInput, TakesInput}
-use Rattle.stock_cli.specs.Claims.{PlanClaims}
+use Rattle.stock_cli.specs.Commands.{PlanClaims}
 use Rattle.stock_cli.specs.Outcome.{task_plan}
 use Rattle.stock_cli.specs.declared.asked.Asked.{Asked}
 use Rattle.stock_cli.specs.declared.words.Command.{Command}
-use Rattle.stock_cli.specs.declared.words.Command.TheVariants as command
 use Rattle.stock_cli.specs.declared.words.WordErr.{WordErr}
 use Rattle.stock_cli.proofs.top.perform.Goals as goal
 
@@ -38,6 +37,6 @@ returns-in-Ok-clause-spared_input g c = λ spares.
     spares (subst P c.in-Ok.ensures.is mine))
 
 pub returns-in-Ok-clause-reach : goal.returns-in-Ok-clause-reach
-returns-in-Ok-clause-reach g c = λ place is.
-    let same : c.in-Ok.command ≡ command.Check place None = cc (c.in-Ok.ensures.is ∙ is) in
-    c.task_of.ensures.reach place (c.asked_of.ensures ∙ ap asked_of same)
+returns-in-Ok-clause-reach g c = λ command about place is asked.
+    let same : c.in-Ok.command ≡ command = cc (c.in-Ok.ensures.is ∙ is) in
+    c.task_of.ensures.reach about place (c.asked_of.ensures ∙ ap asked_of same ∙ asked)

@@ -2,7 +2,8 @@ use Rattle.std.proofs.Common.{◌≡◌, Result, Ok, IfSome, List, map, sym, ◌
 use Rattle.node_state.specs.Handed.{Handed}
 use Rattle.stock_cli.specs.Asks.{asked_of}
 use Rattle.stock_cli.specs.Causes.{ReadsInput, counts_of, IsRefused, IsUnread}
-use Rattle.stock_cli.specs.Outcome.{Plan, ending_of, outcome_of, plan_of, task_plan, task_status}
+use Rattle.stock_cli.specs.Commands.{ending_of, plan_of}
+use Rattle.stock_cli.specs.Outcome.{Plan, outcome_of, task_plan, task_status}
 use Rattle.stock_cli.specs.Words.{command_of}
 use Rattle.stock_cli.specs.declared.status.Status.TheVariants as status
 use Rattle.report_text.specs.declared.faults.Fault.{Fault}

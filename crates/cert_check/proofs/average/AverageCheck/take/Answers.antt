@@ -4,7 +4,7 @@ use Rattle.std.specs.Int.{w128}
 use Rattle.std.specs.Int.RustNames.{FitsSigned}
 use Rattle.std.specs.Prelude.{unsigned_abs}
 use Rattle.average_recursion.specs.Recursions.{average_of, KnowsPoints}
-use Rattle.value_cert.specs.AverageRules.{FirstPoints, named_points, average_rule, point_rule}
+use Rattle.value_cert.specs.AverageRules.{named_points, average_rule, point_rule}
 use Rattle.value_cert.specs.declared.line.CertLine.{CertLine}
 use Rattle.value_cert.specs.declared.line.CertLine.TheVariants.{Gain, Pair, Point}
 use Rattle.cert_check.proofs.average.AverageCheck.take.Goals as goal

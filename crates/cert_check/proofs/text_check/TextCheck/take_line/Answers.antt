@@ -16,12 +16,12 @@ returns-in-Ok-clause-stands c = λ of bytes held.
     let knew = KnowsKind s.kind of in
     let knows = KnowsKind fed.new.self.kind of in
     let taken = c.in-Ok.taken in
-    let F : ℕ → Type 0 = λ n. FeedsLine G knew knows n (is_ended c.push.new.self.place) taken.line fed.result in
-    let P : _ → Type 0 = λ r. IsTextCheckOf G knows r fed.result (bytes ++ take taken.count c.args.piece.now) in
+    let F : ℕ → Type 0 = λ n. FeedsLine G knew knows n (is_ended c.push.new.self.lines.place) taken.line fed.result in
+    let P : _ → Type 0 = λ r. IsTextCheckOf G knows r.lines fed.result (bytes ++ take taken.count c.args.piece.now) in
     record {
       valid = held.valid;
       stands = subst P (sym fed.ensures.reader)
-          (reads_piece G knew knows s.reader c.push.new.self fed.result bytes c.args.piece.now taken.count taken.line (stands.reading live) c.requires
+          (reads_piece G knew knows s.reader.lines c.push.new.self.lines fed.result bytes c.args.piece.now taken.count taken.line (stands.reading live) c.requires
           c.in-Ok.ensures.reads (λ lines read. c.in-Ok.ensures.read bytes lines read) c.in-Ok.ensures.unfinished (subst F c.number-number.ensures (fed.ensures.feeds of)));
     }
 
@@ -31,4 +31,4 @@ returns-in-Err-clause-stands c = λ of bytes held.
     let G = cert_rules of in
     let s = c.args.self.now in
     let live = sym c.is_rejected.ensures ∙ c.if-is_rejected.false in
-    record { valid = held.valid; stands = refuses G (KnowsKind s.kind of) (KnowsKind s.kind of) s.reader c.push.new.self s.verdict _ bytes c.args.piece.now stands live c.in-Err.ensures.refuses (rw c.in-Err.ensures.fails.told refl) }
+    record { valid = held.valid; stands = refuses G (KnowsKind s.kind of) (KnowsKind s.kind of) s.reader.lines c.push.new.self.lines s.verdict _ bytes c.args.piece.now stands live c.in-Err.ensures.refuses (rw c.in-Err.ensures.fails.told refl) }

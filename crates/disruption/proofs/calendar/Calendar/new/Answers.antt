@@ -1,5 +1,5 @@
 use Rattle.std.proofs.Common.{◌≡◌, ◌+◌, take, None, sym, ◌∙◌, subst}
-use Rattle.decision_model.specs.Pauses.{overlapping_span}
+use Rattle.network_model.specs.Pauses.{overlapping_span}
 use Rattle.disruption.specs.Tables.{IsTableOf}
 use Rattle.disruption.proofs.CalendarSteps.{none_of, apart_new, added, left_out}
 use Rattle.disruption.proofs.calendar.Calendar.new.Goals as goal

@@ -1,5 +1,5 @@
 use Rattle.std.proofs.Common.{ℤ, ℕ, List, Option, None, Some, subst}
-use Rattle.decision_model.specs.declared.sweep.Sweep.{Sweep}
+use Rattle.least_values.specs.declared.sweep.Sweep.{Sweep}
 use Rattle.decision_model.specs.Sweeps.{IsLeastOf, IsSweepOf}
 use Rattle.finite_recursion.specs.Rows.{IsReachOf, reached}
 use Rattle.finite_recursion.specs.declared.reach.Reach.{Reach}

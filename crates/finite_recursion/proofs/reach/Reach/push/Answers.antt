@@ -1,8 +1,8 @@
 use Rattle.std.proofs.Common.{min, FitsSigned, w64, ℤ, ℕ, List, [], ◌∷◌, ◌++◌, Option, None, Some, subst}
 use mir.Syntax.{w128}
 use Rattle.std.proofs.lemmas.Int.{to_z-of_z}
-use Rattle.decision_model.specs.declared.sweep.Sweep.{Sweep}
-use Rattle.decision_model.specs.declared.window.Window.{Window}
+use Rattle.least_values.specs.declared.sweep.Sweep.{Sweep}
+use Rattle.least_values.specs.declared.window.Window.{Window}
 use Rattle.decision_model.specs.Sweeps.{IsSweepOf}
 use Rattle.decision_model.specs.Windows.{IsWindowOf}
 use Rattle.finite_recursion.specs.Rows.{IsReachOf}

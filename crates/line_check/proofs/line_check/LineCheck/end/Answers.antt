@@ -5,13 +5,13 @@ use Rattle.line_check.specs.CheckFacts.{going_ends, others_end, accepted_whole}
 use Rattle.line_check.proofs.line_check.LineCheck.end.Goals as goal
 
 pub returns-in-Going-clause-answer : goal.returns-in-Going-clause-answer
-returns-in-Going-clause-answer g c = λ of lines stands. let s = c.args.self.now in c.rejection.ensures ∙ going_ends (ruled g.G.Grammar.grammar (g.R.LineRules.rules of)) (g.R.LineRules.knows c.args.self.now.rules of) s.place s.number s.verdict lines stands c.in-Going.is
+returns-in-Going-clause-answer g c = λ of lines stands. let s = c.args.self.now in c.rejection.ensures ∙ going_ends (ruled (g.G.Grammar.grammar c.args.self.now.grammar) (g.R.LineRules.rules of)) (g.R.LineRules.knows c.args.self.now.rules of) s.place s.number s.verdict lines stands c.in-Going.is
 
 pub returns-in-Accepted-clause-answer : goal.returns-in-Accepted-clause-answer
-returns-in-Accepted-clause-answer g c = λ of lines stands. let s = c.args.self.now in others_end (ruled g.G.Grammar.grammar (g.R.LineRules.rules of)) (g.R.LineRules.knows c.args.self.now.rules of) s.place s.number s.verdict lines stands (λ going. ⊎_elim (λ is. let e : Accepted ≡ Going = sym is ∙ going in cc) (λ other. let e : Rejected other.0 other.1 ≡ Going = sym other.2 ∙ going in cc) c.in-Accepted.is)
+returns-in-Accepted-clause-answer g c = λ of lines stands. let s = c.args.self.now in others_end (ruled (g.G.Grammar.grammar c.args.self.now.grammar) (g.R.LineRules.rules of)) (g.R.LineRules.knows c.args.self.now.rules of) s.place s.number s.verdict lines stands (λ going. ⊎_elim (λ is. let e : Accepted ≡ Going = sym is ∙ going in cc) (λ other. let e : Rejected other.0 other.1 ≡ Going = sym other.2 ∙ going in cc) c.in-Accepted.is)
 
 pub returns-in-Going-clause-accepted : goal.returns-in-Going-clause-accepted
-returns-in-Going-clause-accepted g c = λ of lines stands is. let s = c.args.self.now in accepted_whole (ruled g.G.Grammar.grammar (g.R.LineRules.rules of)) (g.R.LineRules.knows s.rules of) s.place s.number s.verdict lines stands (sym (returns-in-Going-clause-answer g c of lines stands) ∙ is)
+returns-in-Going-clause-accepted g c = λ of lines stands is. let s = c.args.self.now in accepted_whole (ruled (g.G.Grammar.grammar c.args.self.now.grammar) (g.R.LineRules.rules of)) (g.R.LineRules.knows s.rules of) s.place s.number s.verdict lines stands (sym (returns-in-Going-clause-answer g c of lines stands) ∙ is)
 
 pub returns-in-Accepted-clause-accepted : goal.returns-in-Accepted-clause-accepted
-returns-in-Accepted-clause-accepted g c = λ of lines stands is. let s = c.args.self.now in accepted_whole (ruled g.G.Grammar.grammar (g.R.LineRules.rules of)) (g.R.LineRules.knows s.rules of) s.place s.number s.verdict lines stands (sym (returns-in-Accepted-clause-answer g c of lines stands) ∙ is)
+returns-in-Accepted-clause-accepted g c = λ of lines stands is. let s = c.args.self.now in accepted_whole (ruled (g.G.Grammar.grammar c.args.self.now.grammar) (g.R.LineRules.rules of)) (g.R.LineRules.knows s.rules of) s.place s.number s.verdict lines stands (sym (returns-in-Accepted-clause-answer g c of lines stands) ∙ is)

@@ -8,8 +8,9 @@ abbrev pub invariant-loop-rest : goal.invariant-loop-rest
 invariant-loop-rest g l = record {
   front : List ℕ;
   split : l.fn.piece ≡ front ++ l.rest;
-  stands : (of : _) (bytes : List ℕ) → IsTextCheckOf (ruled g.G.Grammar.grammar (g.R.LineRules.rules of)) (g.R.LineRules.knows l.fn.self.rules of) l.fn.self.reader l.fn.self.verdict bytes
-      → IsTextCheckOf (ruled g.G.Grammar.grammar (g.R.LineRules.rules of)) (g.R.LineRules.knows l.self.rules of) l.self.reader l.self.verdict (bytes ++ front);
+  grammar : l.self.reader.grammar ≡ l.fn.self.reader.grammar;
+  stands : (of : _) (bytes : List ℕ) → IsTextCheckOf (ruled (g.G.Grammar.grammar l.fn.self.reader.grammar) (g.R.LineRules.rules of)) (g.R.LineRules.knows l.fn.self.rules of) l.fn.self.reader.lines l.fn.self.verdict bytes
+      → IsTextCheckOf (ruled (g.G.Grammar.grammar l.fn.self.reader.grammar) (g.R.LineRules.rules of)) (g.R.LineRules.knows l.self.rules of) l.self.reader.lines l.self.verdict (bytes ++ front);
   kept : is_rejection l.fn.self.verdict ≡ true → l.self.verdict ≡ l.fn.self.verdict;
 }
 

@@ -6,15 +6,16 @@ use Rattle.line_text.proofs.reader.LineReader.ended_line.Goals as goal
 pub returns-then-end-limit : goal.returns-then-end-limit
 returns-then-end-limit g c =
     let inside = c.self.inside in
-    let unfinished = take inside.len inside.line in
-    let same : unfinished ≡ c.args.self.now.unfinished = ap (λ s. s.unfinished) c.self.view_is in
-    long_is_none g.G.Grammar.grammar c.args.self.now.place (c.args.self.now.unfinished ++ c.args.end.now)
-    (omega (arith, length-append c.args.self.now.unfinished c.args.end.now, ap length same, length-take-le inside.len inside.line (omega (arith, c.self.invariant)), c.limit.ensures.limit, c.self.invariant))
+    let old = c.args.self.now in
+    let same : take inside.len inside.line ≡ old.lines.unfinished = ap (λ s. s.lines.unfinished) c.self.view_is in
+    long_is_none (g.G.Grammar.grammar old.grammar) old.lines.place (old.lines.unfinished ++ c.args.end.now)
+    (omega (arith, length-append old.lines.unfinished c.args.end.now, ap length same, ap (λ s. (g.G.Grammar.grammar s.grammar).limit) c.self.view_is, length-take-le inside.len inside.line (omega (arith, c.self.invariant)), c.limit.ensures.limit, c.self.invariant))
 
 pub returns-in_err-line : goal.returns-in_err-line
-returns-in_err-line g c = rw c.from_residual.ensures (unspelled_is_none g.G.Grammar.grammar c.args.self.now.place _ (sym c.in_err-line.ensures))
+returns-in_err-line g c = rw c.from_residual.ensures (unspelled_is_none (g.G.Grammar.grammar c.args.self.now.grammar) c.args.self.now.lines.place _ (sym c.in_err-line.ensures))
 
 pub returns-in_err-place : goal.returns-in_err-place
 returns-in_err-place g c =
-    let same = ap (λ s. s.place) c.self.view_is in
-    rw c.from_residual-in_err-place.ensures (misplaced_is_none g.G.Grammar.grammar c.args.self.now.place _ c.in_ok-line.line (sym c.in_ok-line.ensures) (ap (λ at. g.G.Grammar.grammar.step at c.in_ok-line.line) (sym same) ∙ sym c.in_err-place.ensures))
+    let old = c.args.self.now in
+    let same = ap (λ s. (g.G.Grammar.grammar s.grammar).step s.lines.place c.in_ok-line.line) (sym c.self.view_is) in
+    rw c.from_residual-in_err-place.ensures (misplaced_is_none (g.G.Grammar.grammar old.grammar) old.lines.place _ c.in_ok-line.line (sym c.in_ok-line.ensures) (same ∙ sym c.in_err-place.ensures))

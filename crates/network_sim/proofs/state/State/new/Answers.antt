@@ -1,7 +1,7 @@
 use Rattle.std.proofs.Common.{◌≡◌, ℕ, ◌<◌, List, length, refl, ◌∙◌, ap, subst}
-use Rattle.decision_model.specs.declared.network.Span.{Span}
-use Rattle.decision_model.specs.Nodes.{node_at}
-use Rattle.decision_model.specs.Pauses.{is_paused}
+use Rattle.network_model.specs.declared.network.Span.{Span}
+use Rattle.network_model.specs.Nodes.{node_at}
+use Rattle.network_model.specs.Pauses.{is_paused}
 use Rattle.node_state.specs.Holdings.{new_holding, legs_of}
 use Rattle.network_sim.specs.declared.station.Station.{Station}
 use Rattle.network_sim.specs.Machine.{node, station}

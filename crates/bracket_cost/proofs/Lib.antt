@@ -1,0 +1,4 @@
+pub mod LowerFacts
+pub mod UpperFacts
+pub mod CellFacts
+pub mod SpanFacts

@@ -1,0 +1,4 @@
+pub mod MoveFacts
+pub mod WalkFacts
+pub mod SizeFacts
+pub mod PlaceFacts

@@ -1,8 +1,0 @@
-use Rattle.std.proofs.Common.{arith}
-use Rattle.std.proofs.lemmas.Grind.{common_steps}
-use Rattle.decision_model.proofs.Greatest.{greatest_in_more}
-use Rattle.decision_model.proofs.items.Items+Law.greatest.Goals as goal
-
-pub loop-law-preserved : goal.loop-law-preserved
-loop-law-preserved c =
-    grind (arith, common_steps, greatest_in_more c.deref-law-items.result.now c.loop-law.law-index c.law-item.result c.loop-law-test.true)

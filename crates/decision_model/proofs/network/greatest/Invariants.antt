@@ -1,6 +1,0 @@
-use Rattle.std.proofs.Common.{◌≡◌, max, drop}
-use Rattle.decision_model.specs.Nodes.{greatest}
-use Rattle.decision_model.proofs.network.greatest.Given as goal
-
-abbrev pub invariant-loop-demand : goal.invariant-loop-demand
-invariant-loop-demand l = greatest l.demands ≡ max l.greatest (greatest (drop l.demand-index l.demands))

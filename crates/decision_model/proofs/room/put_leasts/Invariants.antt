@@ -1,5 +1,0 @@
-use Rattle.decision_model.proofs.BlockLeasts.{AreTurned}
-use Rattle.decision_model.proofs.room.put_leasts.Given as goal
-
-abbrev pub invariant-loop-slot : goal.invariant-loop-slot
-invariant-loop-slot l = AreTurned l.fn.room l.room l.width l.slot

@@ -1,6 +1,0 @@
-use Rattle.std.proofs.Common.{◌≡◌, drop}
-use Rattle.decision_model.specs.Shape.{are_distinct}
-use Rattle.decision_model.proofs.shape.are_distinct.Given as goal
-
-abbrev pub invariant-loop-place : goal.invariant-loop-place
-invariant-loop-place l = are_distinct l.sources ≡ are_distinct (drop l.place l.sources)

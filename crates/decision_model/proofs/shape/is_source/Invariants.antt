@@ -1,8 +1,0 @@
-use Rattle.std.proofs.Common.{◌≡◌, drop}
-use Rattle.std.specs.List.{list_any}
-use Rattle.decision_model.specs.declared.network.Link.{Link}
-use Rattle.decision_model.specs.Nodes.{is_from}
-use Rattle.decision_model.proofs.shape.is_source.Given as goal
-
-abbrev pub invariant-loop-source : goal.invariant-loop-source
-invariant-loop-source l = list_any (λ (s : Link). is_from l.node s.from) l.sources ≡ list_any (λ (s : Link). is_from l.node s.from) (drop l.source-index l.sources)

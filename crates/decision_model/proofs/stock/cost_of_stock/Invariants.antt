@@ -1,6 +1,0 @@
-use Rattle.std.proofs.Common.{◌≡◌, pos, take}
-use Rattle.decision_model.specs.Stock.{stock_cost}
-use Rattle.decision_model.proofs.stock.cost_of_stock.Given as goal
-
-abbrev pub invariant-loop-demand : goal.invariant-loop-demand
-invariant-loop-demand l = pos l.cost ≡ stock_cost l.over l.under (take l.demand l.weights) l.position

@@ -1,6 +1,0 @@
-use Rattle.std.proofs.Common.{refl}
-use Rattle.decision_model.proofs.WindowSteps.{seen_none}
-use Rattle.decision_model.proofs.window.Window.new.Goals as goal
-
-pub returns-clause-none : goal.returns-clause-none
-returns-clause-none c = λ room len. (refl, seen_none c.args.width room len)

@@ -1,0 +1,4 @@
+mod CheckSteps
+mod EntryFits
+mod BracketAnswers
+mod BracketAccepted

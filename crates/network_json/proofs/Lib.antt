@@ -1,0 +1,4 @@
+pub mod Places
+pub mod BackNames
+pub mod BackNodes
+pub mod BackNetwork

@@ -1,0 +1,12 @@
+pub use Rattle.model_terms.specs.Positions
+pub use Rattle.model_terms.specs.Rates
+pub use Rattle.model_terms.specs.DemandLaws
+pub mod Limits
+pub mod Nodes
+pub mod Shape
+pub mod Pauses
+pub mod PauseFacts
+pub mod Load
+pub mod Network
+pub mod Paths
+pub mod NetworkFacts
