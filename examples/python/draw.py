@@ -2,7 +2,8 @@
 """Draws the expected cost of each order-up-to level of a newsvendor, the order and the stock of each period of a lot
 plan, the highest position of each period of a finite horizon that orders and where it orders up to, the expected cost of
 a period at each position of an average cost, or the level of each echelon of a serial system by periods: with matplotlib
-where it is there, else as bars of text, which `--text` asks for.
+where it is there, else as bars of text, which `--text` asks for. Of an average cost that is too wide for an exact fraction
+it draws both bounds of what each position costs beyond the average.
 
     python3 examples/python/draw.py [--text] examples/newsvendor-bakery.json
 """
@@ -38,6 +39,26 @@ def highest_orders(policy):
         position = line["s"] if "s" in line else max(line["orders"], default=None)
         found.append((None, None) if position is None else (position, stockreader.order_up_to(line, position)))
     return found
+
+
+def bracket_series(instance):
+    """What is drawn of a bracket: its entries, in units of cost."""
+    found = stockreader.bracket(instance)
+    rows = [line.split() for line in stockreader.certify(instance, ["bracket"]).splitlines()]
+    entries = [[int(row[place]) / 1e6 for row in rows if row[0] == "p"] for place in (2, 3)]
+    title = "What each position costs beyond the average; %s, average between %.6f and %.6f" % (
+        ", ".join("%s %d" % pair for pair in found.policy[0].items()), found.lower, found.upper)
+    return title, "position", [("at least", instance["floor"], entries[0]), ("at most", instance["floor"], entries[1])]
+
+
+def drawn_of(instance):
+    """What is drawn of the exact answer, or else of the bracket."""
+    try:
+        return series_of(instance)
+    except stockreader.StockError as error:
+        if error.status != 6 or instance["kind"] != "average":
+            raise
+        return bracket_series(instance)
 
 
 def series_of(instance):
@@ -99,7 +120,7 @@ def main():
         return 2
     try:
         with open(names[0], encoding="utf-8") as file:
-            drawn = series_of(json.load(file))
+            drawn = drawn_of(json.load(file))
     except (stockreader.StockError, OSError) as error:
         print(error, file=sys.stderr)
         return getattr(error, "status", 3)

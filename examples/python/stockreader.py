@@ -25,6 +25,10 @@ PROGRAM = os.path.join(HERE, "..", "..", "stock")
 # n * cost - span.
 Answer = namedtuple("Answer", "kind policy cost span", defaults=(None,))
 
+# A pair, and what an average cost that is too wide for an exact fraction is known to lie between: no policy costs less than
+# the lower bound a period, and the pair costs at most the upper one, over n periods give or take the span.
+Bracket = namedtuple("Bracket", "kind policy lower upper span")
+
 # Whether a certificate is accepted; else the first line that breaks a rule, and the rule.
 Verdict = namedtuple("Verdict", "accepted line rule")
 
@@ -103,17 +107,24 @@ def stages_up_to(policy, period, stocks):
     return [min(to, above) for to, above in zip(raised, stocks[1:])] + raised[-1:]
 
 
-def certify(instance):
-    """The text of the certificate."""
-    return run(["certify"], instance)[1]
+def bracket(instance):
+    """The bracket of an average cost."""
+    _, text = run(["bracket", "solve"], instance)
+    kind, policy, *numbers, _ = text.splitlines()
+    return Bracket(kind.split()[1], policy_of([policy]), *(Fraction(line.split()[1]) for line in numbers))
 
 
-def check(instance, certificate):
+def certify(instance, part=()):
+    """The text of the certificate; of a bracket's, where the part is ["bracket"]."""
+    return run([*part, "certify"], instance)[1]
+
+
+def check(instance, certificate, part=()):
     """What the checker says of a certificate's text, whoever wrote it."""
     with tempfile.NamedTemporaryFile("w", suffix=".certificate") as file:
         file.write(certificate)
         file.flush()
-        status, text = run(["check", "-", file.name], instance)
+        status, text = run([*part, "check", "-", file.name], instance)
     if status == 0:
         return Verdict(True, None, None)
     _, _, line, _, rule = text.split()

@@ -5,6 +5,7 @@ pub mod News
 pub mod Lots
 pub mod Finite
 pub mod Average
+pub mod Bracket
 pub mod Serial
 pub mod Network
 pub mod Reports

@@ -36,4 +36,4 @@ report_of instance c =
 
 -- the text of `help`
 abbrev pub help_words : List ℕ
-help_words = codes "usage: stock COMMAND\n  solve [F]             print an optimal policy\n  certify [F]           print its certificate\n  check INSTANCE CERT   check a certificate\n  demand [F]            print demand laws\n  simulate [F]          run a network\n  trial N               make, solve and check large instances\n  help                  print this text\nF, INSTANCE and CERT are file names; - is standard input.\n"
+help_words = codes "usage: stock COMMAND\n  solve [F]             print an optimal policy\n  certify [F]           print its certificate\n  check INSTANCE CERT   check a certificate\n  demand [F]            print demand laws\n  simulate [F]          run a network\n  trial N               make, solve and check large instances\n  bracket ACTION        bound the average cost on a wide range\n  help                  print this text\nF, INSTANCE and CERT are file names; - is standard input.\nACTION is solve, certify or check with its files.\n"

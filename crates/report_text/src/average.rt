@@ -15,7 +15,7 @@ use std::slice;
 use value_cert::AverageCert;
 
 // Appends the line of a pair of positions.
-fn push_pair(out: &mut Text, lots: bool, low: i64, high: i64) -> Result<(), Memory>
+pub fn push_pair(out: &mut Text, lots: bool, low: i64, high: i64) -> Result<(), Memory>
     requires below { low ≤ℤ high }
     requires near { high ≤ℤ (low +ℤ pos 4000000) }
     ensures { OnOk result (out.new ≡ out.old ++ pair_line lots low high) }

@@ -13,7 +13,9 @@ pub fn help_text() -> &'static str
   demand [F]            print demand laws
   simulate [F]          run a network
   trial N               make, solve and check large instances
+  bracket ACTION        bound the average cost on a wide range
   help                  print this text
 F, INSTANCE and CERT are file names; - is standard input.
+ACTION is solve, certify or check with its files.
 "
 }

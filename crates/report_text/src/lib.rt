@@ -2,6 +2,7 @@
 #![tactic(auto)]
 
 mod average;
+mod bracket;
 mod demand;
 mod faults;
 mod finite;
@@ -17,6 +18,7 @@ mod serial;
 mod trial;
 mod verdicts;
 
+pub use bracket::bracket_report;
 pub use demand::{demand_text, has_laws};
 pub use faults::{Fault, cannot_write_text, fault_text};
 pub use finite::shapes_go_by_periods;

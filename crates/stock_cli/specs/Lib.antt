@@ -5,6 +5,7 @@ pub mod Status
 pub mod Inputs
 pub mod Subjects
 pub mod KindSubject
+pub mod BracketSubject
 pub mod AnyCerts
 pub mod Outcome
 pub mod Endings

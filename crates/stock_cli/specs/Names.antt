@@ -34,7 +34,7 @@ part_word part.Pairs = codes "pairs"
 
 -- the parts that run
 abbrev pub is_built : Part → Bool
-is_built part.Bracket = false
+is_built part.Bracket = true
 is_built part.Pipeline = false
 is_built part.Service = false
 is_built part.Pairs = false

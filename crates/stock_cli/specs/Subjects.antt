@@ -21,7 +21,7 @@ pub record SubjectOf (Item Cert : Type 0) : Type 1 where
   pub HasText : Cert → Type 0
   -- the lines of certificates, and the rules of an item on them
   pub rules : Item → RuledGrammar
-  -- the certificate names a policy than which none costs less, and its cost
+  -- the certificate names a policy than which none costs less, and its cost; or one, with bounds of every policy's cost
   pub Certifies : Item → Cert → Type 0
 
 -- the item's kind is solved
@@ -55,14 +55,14 @@ pub record Stands {Item Cert : Type 0} (subject : SubjectOf Item Cert) (found : 
   pub solved : IsSolved subject item
 
 -- ---- what is claimed
--- a certificate of the item, of which this holds, names a policy than which none costs less, and its cost
+-- a certificate of the item, of which this holds, claims what it says of a policy
 pub record NamesLeastPolicy {Item Cert : Type 0} (subject : SubjectOf Item Cert) (item : Item) (text_is : Cert → Type 0) : Type 0 where
   pub cert : Cert
   pub has_text : subject.HasText cert
   pub certifies : subject.Certifies item cert
   pub text : text_is cert
 
--- the text reports a policy of the item than which none costs less, and its cost
+-- the text reports such a policy of the item
 abbrev pub IsReport : {Item Cert : Type 0} → SubjectOf Item Cert → Item → List ℕ → Type 0
 IsReport subject item text = NamesLeastPolicy subject item (λ c. text ≡ subject.report item c)
 

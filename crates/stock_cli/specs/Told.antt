@@ -2,6 +2,7 @@
 use Rattle.std.specs.Prelude.{ℕ, List, Option, Result}
 use Rattle.report_text.specs.declared.faults.Fault.{Fault}
 use Rattle.report_text.specs.declared.faults.Fault.TheVariants as fault
+use Rattle.stock_cli.specs.BracketSubject.{bracket_subject}
 use Rattle.stock_cli.specs.Checks.{ReachesFor}
 use Rattle.stock_cli.specs.Claims.{ActionClaims}
 use Rattle.stock_cli.specs.Endings.{action_ending}
@@ -12,6 +13,7 @@ use Rattle.stock_cli.specs.Subjects.{SubjectOf, Stands}
 use Rattle.stock_cli.specs.declared.asked.About.{About}
 use Rattle.stock_cli.specs.declared.asked.About.TheVariants as about
 use Rattle.stock_cli.specs.declared.names.Part.{Part}
+use Rattle.stock_cli.specs.declared.names.Part.TheVariants as part
 use Rattle.stock_cli.specs.declared.words.Action.{Action}
 
 -- what is told of a subject without its types
@@ -37,6 +39,12 @@ unbuilt = record {
   Reaches = λ content old new. ⊥;
 }
 
+abbrev pub told_of_part : Part → Told
+told_of_part part.Bracket = told_by bracket_subject
+told_of_part part.Pipeline = unbuilt
+told_of_part part.Service = unbuilt
+told_of_part part.Pairs = unbuilt
+
 abbrev pub told_of : About → Told
 told_of about.Kinds = told_by kind_subject
-told_of (about.Part p) = unbuilt
+told_of (about.Part p) = told_of_part p

@@ -5,13 +5,15 @@ ghost use Rattle.stock_edge.specs.Causes.{AppendsPrefix, HasCause};
 ghost use Rattle.stock_cli.specs.AnyCerts.{any_text, AnyHasText};
 
 use stock_edge::{Failed, Sink};
-use value_cert::{Cert, write_cert};
+use value_cert::{BracketCert, Cert, write_bracket, write_cert};
 
 /// A certificate, by what it is about.
 #[derive(Drop)]
 pub enum AnyCert {
     /// Of an instance of a kind.
     Kind(Cert),
+    /// Of a bracket of an average cost.
+    Bracket(BracketCert),
 }
 
 /// Writes the text of a certificate. After a fault a prefix of it was written.
@@ -23,5 +25,6 @@ pub fn write_any<O: Sink>(cert: &AnyCert, out: &mut O) -> Result<(), Failed>
 {
     match cert {
         AnyCert::Kind(cert) => write_cert(cert, out),
+        AnyCert::Bracket(cert) => write_bracket(cert, out),
     }
 }

@@ -3,7 +3,7 @@ ghost use Rattle.std.specs.Prelude.{◌≡◌, ◌⊎◌, ◌≤◌, ℕ, None, 
 ghost use Rattle.std.specs.declared.option.Option.{Option};
 ghost use Rattle.std.specs.Io.KnownBytes.{IsAtEnd};
 ghost use Rattle.decision_model.specs.Valid.{IsValid};
-ghost use Rattle.stock_cli.specs.Asks.{CanRun, IsActionInput, IsApart, IsCheckAction, IsComparison, IsInputOf};
+ghost use Rattle.stock_cli.specs.Asks.{CanRun, IsActionInput, IsApart, IsCheckAction, IsComparison, IsInputOf, Runs};
 ghost use Rattle.stock_cli.specs.Causes.{ActsOn, ComparesInput, ComesTo, ReadsNoFile, counts_of, IsUnread, IsRefused, HasNoAnswer};
 ghost use Rattle.stock_cli.specs.Checks.{ReachesFor};
 ghost use Rattle.stock_cli.specs.Claims.{QuestionClaims, AskClaims, CompareClaims, ActionClaims, KindPlanClaims, OfContent};
@@ -17,6 +17,7 @@ ghost use Rattle.stock_cli.specs.Told.{told_of};
 
 use crate::answers::{Answer, Task};
 use crate::asked::{About, Asked, KindQuestion, Question};
+use crate::brackets::Brackets;
 use crate::certify::certify;
 use crate::check::check;
 use crate::demand::demand;
@@ -167,6 +168,43 @@ fn act<S: Subject, I: Source, F: Files>(
     }
 }
 
+// The answer to an action on what it is about. Here alone is told apart what that is.
+fn act_on<I: Source, F: Files>(
+    alloc: Global,
+    words: &[String],
+    about: About,
+    action: Action,
+    input: &mut I,
+    files: &mut F,
+) -> Result<Answer, Fault>
+    requires runs { Runs about }
+    requires apart { IsApart action }
+    ensures ok { IfOk result (λ answer. IfSome ((told_of about).ending (contents (I.left input.old) (F.held files.old) words.now) action) (λ end. end ≡ Ok (written answer))) }
+    ensures claims { IfOk result (λ answer. (output_of answer).status ≡ Status.Done →
+        (told_of about).Claims (contents (I.left input.old) (F.held files.old) words.now) action (output_of answer).text) }
+    ensures has_text { IfOk result AnswerHasText }
+    ensures end { IfOk result (λ answer. (output_of answer).status ≡ Status.Done → IsActionInput action None → IsAtEnd (I.left input.new)) }
+    ensures rejects { IfOk result (λ answer. (output_of answer).status ≡ Status.Rejected → IsCheckAction action) }
+    ensures refused { IfErr result (IsRefused
+        (IsUnread (counts_of (I.faults input.old) (I.faults input.new) (F.faults files.old) (F.faults files.new)) (ActsOn (told_of about).Stands (I.left input.old) (F.held files.old) words.now action))
+        ((told_of about).ending (contents (I.left input.old) (F.held files.old) words.now) action)) }
+    ensures of_inputs { IfErr result IsOfInputs }
+    ensures later_input { I.faults input.old ≤ I.faults input.new }
+    ensures later_files { F.faults files.old ≤ F.faults files.new }
+    ensures spared_input { (ActsOn (told_of about).Stands (I.left input.old) (F.held files.old) words.now action None → ⊥) → input.new ≡ input.old }
+    ensures spared_files { ReadsNoFile (ActsOn (told_of about).Stands (I.left input.old) (F.held files.old) words.now action) → files.new ≡ files.old }
+    ensures reach { (place : Option ℕ) → action ≡ Action.Check place None → (input.new ≡ input.old) ⊎
+        (told_of about).Reaches (contents (I.left input.old) (F.held files.old) words.now place) (I.left input.old) (I.left input.new) }
+{
+    match about {
+        About::Kinds => act::<Kinds, I, F>(alloc, words, action, input, files),
+        About::Part(Part::Bracket) => act::<Brackets, I, F>(alloc, words, action, input, files),
+        About::Part(Part::Pipeline) => unreachable!(),
+        About::Part(Part::Service) => unreachable!(),
+        About::Part(Part::Pairs) => unreachable!(),
+    }
+}
+
 // What is left to do for a further question on an instance.
 fn task_on(alloc: Global, question: KindQuestion, instance: Instance) -> Result<Task, Fault>
     requires { IsValid instance }
@@ -209,8 +247,7 @@ fn ask_kind<I: Source, F: Files>(
     task_on(alloc, question, instance)
 }
 
-/// What is left to do for what is asked, once the inputs are read; nothing is written before. Here alone is told apart
-/// what a command is about.
+/// What is left to do for what is asked, once the inputs are read; nothing is written before.
 pub fn task_of<I: Source, F: Files>(
     alloc: Global,
     words: &[String],
@@ -240,15 +277,9 @@ pub fn task_of<I: Source, F: Files>(
         (told_of about).Reaches (contents (I.left input.old) (F.held files.old) words.now place) (I.left input.old) (I.left input.new) }
 {
     match asked {
-        Asked::Action(About::Kinds, action) => {
-            Ok(Task::Write(act::<Kinds, I, F>(alloc, words, action, input, files)?))
+        Asked::Action(about, action) => {
+            Ok(Task::Write(act_on(alloc, words, about, action, input, files)?))
         }
-        Asked::Action(About::Part(part), _) => match part {
-            Part::Bracket => unreachable!(),
-            Part::Pipeline => unreachable!(),
-            Part::Service => unreachable!(),
-            Part::Pairs => unreachable!(),
-        },
         Asked::Kind(question, place) => {
             ask_kind(alloc, question, &Input::named(words, place), input, files)
         }

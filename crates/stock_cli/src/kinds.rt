@@ -25,7 +25,7 @@ pub struct Kinds;
 
 // The fault of an input of which there is no verdict. None is so long that it can't be counted: that stands for want of
 // memory.
-fn fault_of(alloc: Global, name: &str, wrong: Unchecked) -> Fault
+pub(crate) fn fault_of(alloc: Global, name: &str, wrong: Unchecked) -> Fault
     ensures memory { wrong ≡ Unchecked.Endless → result ≡ Fault.Memory }
     ensures missing { wrong ≡ Unchecked.Missing → (result ≡ Fault.Memory) ⊎ (result ≡ Fault.MissingFile name.now) }
     ensures failed { wrong ≡ Unchecked.Failed → (result ≡ Fault.Memory) ⊎ (result ≡ Fault.ReadFault name.now) }

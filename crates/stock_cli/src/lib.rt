@@ -5,6 +5,7 @@
 mod answers;
 mod any_cert;
 mod asked;
+mod brackets;
 mod certificates;
 mod certify;
 mod check;

@@ -96,7 +96,7 @@ impl Part {
         ensures { result ≡ is_built self }
     {
         match self {
-            Part::Bracket => false,
+            Part::Bracket => true,
             Part::Pipeline => false,
             Part::Service => false,
             Part::Pairs => false,

@@ -6,6 +6,7 @@ ghost use Rattle.line_check.specs.Verdicts.{verdict_of};
 ghost use Rattle.stock_cli.specs.Checks.{TextCheckOf};
 
 use cert_check::{TextCheck, Verdict};
+use flat_check::BracketTextCheck;
 
 /// What takes a text in any pieces and answers the verdict on it.
 pub trait TakesText {
@@ -38,5 +39,19 @@ impl TakesText for TextCheck<'_> {
 
     fn end(&self) -> Verdict {
         TextCheck::end(self)
+    }
+}
+
+impl TakesText for BracketTextCheck<'_> {
+    ghost use Rattle.stock_cli.specs.BracketSubject.{bracket_check};
+
+    ghost check = { bracket_check };
+
+    fn push(&mut self, piece: &[u8]) -> Verdict {
+        BracketTextCheck::push(self, piece)
+    }
+
+    fn end(&self) -> Verdict {
+        BracketTextCheck::end(self)
     }
 }
