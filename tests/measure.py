@@ -101,6 +101,16 @@ def average(positions):
             "demand": {"points": [[0, 1], [1, 1]]}, "floor": -50, "cap": positions - 51}
 
 
+def wide(positions, demands=10):
+    """An average cost of a demand with a weight for each size below a number, on a wide range."""
+    return {"kind": "average", "lead": 1, "setup": 500, "holding": 1, "stockout": 9,
+            "demand": {"uniform": [0, demands - 1]}, "floor": -500, "cap": positions - 501}
+
+
+def wide_demands(demands):
+    return wide(4000, demands)
+
+
 def stages(count, positions=200, demands=5):
     """A chain of stages over twelve periods; each demand below a number has weight 1."""
     return {"kind": "serial", "periods": 12, "holding": [1] * count, "unit": 1, "stockout": 20,
@@ -152,7 +162,7 @@ def tree(nodes, periods=1000):
     return {"kind": "network", "periods": periods, "nodes": listed}
 
 
-# The rows: name, command, instance of a size, and the three sizes.
+# The rows: name, words of the command, instance of a size, and the three sizes.
 ROWS = [
     ("`solve`, newsvendor of 2,500, 5,000, 10,000 points", "solve", newsvendor, (2500, 5000, 10000)),
     ("`solve`, steady lots of 500, 1,000, 2,000 periods", "solve", steady_lots, (500, 1000, 2000)),
@@ -176,6 +186,10 @@ ROWS = [
     ("`solve`, average of 500, 1,000, 2,000 positions", "solve", average, (500, 1000, 2000)),
     ("`certify`, average of 500, 1,000, 2,000 positions", "certify", average, (500, 1000, 2000)),
     ("`check`, average of 500, 1,000, 2,000 positions", "check", average, (500, 1000, 2000)),
+    ("`bracket solve`, average of 5,000, 10,000, 20,000 positions", "bracket solve", wide, (5000, 10000, 20000)),
+    ("`bracket solve`, average of 75, 150, 300 demands on 4,000 positions", "bracket solve", wide_demands, (75, 150, 300)),
+    ("`bracket certify`, average of 5,000, 10,000, 20,000 positions", "bracket certify", wide, (5000, 10000, 20000)),
+    ("`bracket check`, average of 5,000, 10,000, 20,000 positions", "bracket check", wide, (5000, 10000, 20000)),
     ("`solve`, serial of 1, 2, 4 echelons on 200 positions", "solve", stages, (1, 2, 4)),
     ("`solve`, serial of 8 echelons on 100, 200, 400 positions", "solve", eight_stages, (100, 200, 400)),
     ("`solve`, serial of 4 echelons on 100, 200, 400 positions", "solve", four_stages, (100, 200, 400)),
@@ -211,10 +225,11 @@ def counts(program, command, instance_of, sizes, folder):
         instance, certificate = os.path.join(folder, "instance"), os.path.join(folder, "certificate")
         with open(instance, "w", encoding="utf-8") as file:
             json.dump(instance_of(size), file)
-        words = [command, instance]
-        if command == "check":
+        *part, action = command.split()
+        words = [*part, action, instance]
+        if action == "check":
             with open(certificate, "wb") as file:
-                subprocess.run([program, "certify", instance], stdout=file, check=True)
+                subprocess.run([program, *part, "certify", instance], stdout=file, check=True)
             words.append(certificate)
         counted.append(count(program, words) / 1e6)
     return counted

@@ -8,7 +8,7 @@ EXAMPLES = os.path.join(os.path.dirname(os.path.abspath(__file__)), "..", "..", 
 # Examples by the name that they have among the commands.
 COPIED = {"newsvendor": "newsvendor.json", "lots": "lots.json", "average": "average.json",
           "reorder": "average-spare-part.json", "serial": "serial.json", "finite": "finite-capacity.json",
-          "shop": "network-shop.json", "drawn": "network-drawn.json", "house": "network-house-rules.json"}
+          "weekly": "average-weekly.json", "shop": "network-shop.json", "drawn": "network-drawn.json", "house": "network-house-rules.json"}
 # Behind an instance, so that its file takes more than one read of 4,096 bytes.
 PADDING = " " * 4200 + "\n"
 OF_ALL_DEMAND = {"points": [[0, 1], [1, 1]]}
@@ -31,6 +31,8 @@ WRITTEN = {
     "unknown": {"kind": "newsvendor", "holding": 1, "stockout": 3, "demand": OF_ALL_DEMAND, "setup": 1},
     "absent": {"kind": "network", "periods": 2, "nodes": [node({"house": 5, "cap": 9})]},
 }
+# What is asked behind the word of a part.
+BRACKETED = ("weekly", "average")
 CERTIFIED = ("newsvendor", "lots", "finite", "pair", "average", "reorder", "serial", "discount", "long")
 # A certificate whose level isn't the least.
 REJECTED = "certificate 1 newsvendor\nq 3\ncost 6\nend\n"
@@ -56,11 +58,20 @@ def opened_files(command):
     """The names of the files that the command opens, in their order."""
     if command.words[:1] in (["trial"], ["help"]):
         return []
-    return [word for word in command.words[1:] if word != "-"]
+    verbs = 2 if command.words[:1] == ["bracket"] else 1
+    return [word for word in command.words[verbs:] if word != "-"]
 
 
 def certificate_of(name):
     return name + "-certificate"
+
+
+def bracket_of(name):
+    return name + "-bracket"
+
+
+def bracket_on(name):
+    return Command("bracket certify " + name, ["bracket", "certify", name], None)
 
 
 def on_file(verb, name):
@@ -84,6 +95,20 @@ def of_kinds():
     yield on_standard_input("solve", "finite")
     yield on_standard_input("demand", "serial")
     yield on_standard_input("simulate", "drawn")
+
+
+def of_brackets():
+    """The commands of two words."""
+    for name in BRACKETED:
+        yield Command("bracket solve " + name, ["bracket", "solve", name], None)
+        yield Command("bracket certify <" + name, ["bracket", "certify"], name)
+        yield Command("bracket check " + name, ["bracket", "check", name, bracket_of(name)], None)
+        yield Command("bracket check %s -" % name, ["bracket", "check", name, "-"], bracket_of(name))
+    yield Command("bracket check - weekly", ["bracket", "check", "-", bracket_of("weekly")], "weekly")
+    yield Command("bracket check another", ["bracket", "check", "weekly", bracket_of("average")], None)
+    yield Command("bracket of a newsvendor", ["bracket", "solve", "newsvendor"], None)
+    yield Command("bracket alone", ["bracket"], None)
+    yield Command("unknown action", ["bracket", "demand"], None)
 
 
 def of_checks():
@@ -117,6 +142,7 @@ def of_refusals():
 
 def all_commands():
     yield from of_kinds()
+    yield from of_brackets()
     yield from of_checks()
     yield Command("help", ["help"], None)
     yield Command("trial 1", ["trial", "1"], None)

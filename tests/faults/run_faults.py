@@ -24,7 +24,8 @@ import sys
 import tempfile
 import time
 
-from fault_commands import CERTIFIED, all_commands, certificate_of, on_file, opened_files, prepare
+from fault_commands import (BRACKETED, CERTIFIED, all_commands, bracket_of, bracket_on, certificate_of, on_file,
+                            opened_files, prepare)
 from fault_runs import HERE, Bench, NoLibrary
 
 PROGRAM = os.path.join(HERE, "..", "..", "crates", "stock", "out", "stock")
@@ -237,11 +238,13 @@ class Test:
 
 def make_certificates(bench):
     """Writes the certificates that are checked; gives the name of an instance that has none."""
-    for name in CERTIFIED:
-        status, out, _ = bench.start(on_file("certify", name), {})
+    exact = [(name, on_file("certify", name), certificate_of(name)) for name in CERTIFIED]
+    bounds = [(name, bracket_on(name), bracket_of(name)) for name in BRACKETED]
+    for name, command, file_name in exact + bounds:
+        status, out, _ = bench.start(command, {})
         if status != 0:
             return name
-        with open(os.path.join(bench.folder, certificate_of(name)), "wb") as file:
+        with open(os.path.join(bench.folder, file_name), "wb") as file:
             file.write(out)
     return None
 

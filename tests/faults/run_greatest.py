@@ -18,17 +18,30 @@ import os
 import sys
 import tempfile
 import time
+from fractions import Fraction
 
 from costs import COSTS
 from greatest import KINDS, LONG, all_demands, by_hand, finite, greatest_law, network
 from limits import limits, texts
 from measured import Runner
 from reference import verdict
+from reference_bracket import bracket_verdict, certificate_of
 from reports import solve_text
 from runs import in_threads, program_of, run
 from standards import standard_of
 
 MOST_LINES = 60000
+# The grids of brackets are the longest that there may be.
+BRACKETS = [
+    ("20,000 positions, 300 demands",
+     {"kind": "average", "lead": 1, "setup": 500, "holding": 1, "stockout": 9, "demand": {"uniform": [0, 299]},
+      "floor": -4999, "cap": 15000}),
+    ("20,000 positions, weights of 1,000,000,000",
+     {"kind": "average", "setup": 1000, "holding": 10, "stockout": 90,
+      "demand": {"points": [[0, 499999999], [1, 500000000], [9, 1]]}, "floor": -9999, "cap": 10000}),
+    ("one position", {"kind": "average", "holding": 10 ** 6, "stockout": 10 ** 6, "demand": {"points": [[10000, 1]]},
+                      "floor": 0, "cap": 0}),
+]
 MODERATE = [
     {"kind": "finite", "periods": 5, "lead": 2, "setup": 7, "unit": 2, "holding": 1, "stockout": 6, "end_holding": 1,
      "end_stockout": 3, "discount": [9, 10], "most": 9, "total": 12,
@@ -115,6 +128,34 @@ class Greatest:
         self.cost("%s, %s" % (instance["kind"], name), instance, self.runner.read("solved"))
         if self.runner.read("c") != standard_of(instance):
             self.fault("%s, %s" % (instance["kind"], name), "another certificate is written")
+
+    def bracket(self, name, instance):
+        """Bounds an average cost, and has both checkers accept the certificate; gives what was printed."""
+        self.instances += 1
+        name = "bracket, " + name
+        self.runner.write("i", json.dumps(instance).encode())
+        figures = []
+        ended = [self.measured(name, "bracket", words, out, figures) for words, out in (
+            (["solve", "i"], "solved"), (["certify", "i"], "c"), (["check", "i", "c"], "checked"))]
+        self.told(name, figures)
+        if not all(ended):
+            return None
+        if self.runner.read("checked") != b"accepted\n":
+            self.fault(name, "check has %r" % self.runner.read("checked")[:200])
+        if bracket_verdict(instance, self.runner.read("c")) != "accepted":
+            self.fault(name, "the reference doesn't accept the certificate")
+        return dict(line.split(" ", 1) for line in self.runner.read("solved").decode().splitlines()[:-1])
+
+    def both(self, place, instance):
+        """The exact cost lies within the bounds, and the bracket is the one that its rules fix."""
+        told = self.bracket("moderate %d" % place, instance)
+        if told is None:
+            return
+        cost = COSTS["average"](instance)
+        if not Fraction(told["lower"]) <= cost <= Fraction(told["upper"]):
+            self.fault("bracket, moderate %d" % place, "the cost is %s, the bounds are %r" % (cost, told))
+        if self.runner.read("c") != certificate_of(instance):
+            self.fault("bracket, moderate %d" % place, "another certificate is written")
 
     def hand(self):
         """The instance whose width number is exactly 2^120, and the next wider one."""
@@ -209,6 +250,10 @@ def run_instances(greatest, long):
     greatest.hand()
     for place, instance in enumerate(MODERATE, 1):
         greatest.moderate(place, instance)
+        if instance["kind"] == "average":
+            greatest.both(place, instance)
+    for name, instance in BRACKETS:
+        greatest.bracket(name, instance)
     law = {"uniform": [0, 400]}
     greatest.demand("demand, 401 demands over the longest lead time",
                     finite(periods=1, lead=8, setup=0, unit=0, holding=0, stockout=0, demand=law))
